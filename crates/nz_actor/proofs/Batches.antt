@@ -1,5 +1,5 @@
 -- One batch more of an actor.
-use Rattle.std.proofs.Common.{◌≡◌, ℕ, ◌+◌, ◌<◌, Bool, true, false, List, [], ◌∷◌, ◌++◌, length, get_or, take, suc, refl, sym, ap, subst, ◌∙◌}
+use Rattle.std.proofs.Common.{◌≡◌, ℕ, ◌+◌, ◌<◌, Bool, true, false, List, [], ◌∷◌, ◌++◌, length, get_or, take, refl, sym, ap, subst, ◌∙◌}
 use Rattle.std.proofs.lemmas.List.{take_more}
 use Rattle.std.specs.Prelude.{MatchBool}
 use Rattle.nz_base.specs.declared.actor.Actor.{Actor}
@@ -9,11 +9,11 @@ use Rattle.nz_machine.specs.declared.event.Record.{Record}
 use Rattle.nz_machine.specs.rules.State.{Group}
 use Rattle.nz_machine.specs.rules.Step.{Node, first_node, node_run}
 use Rattle.nz_machine.specs.runs.World.{state_after}
-use Rattle.nz_machine.proofs.runs.Runs.{acts_itself}
-use Rattle.nz_fabric.specs.declared.batch.Batch.{Batch}
-use Rattle.nz_fabric.specs.Records.{ActorSteps, with_step}
-use Rattle.nz_fabric.specs.Shared.{Shared, next_item, next_record}
-use Rattle.nz_fabric.specs.Steps.{batch_records, node_after, node_from, sends_after, sends_from, with_steps}
+use Rattle.nz_fabric.specs.declared.threads.batch.Batch.{Batch}
+use Rattle.nz_fabric.specs.threads.Records.{ActorSteps, with_step}
+use Rattle.nz_fabric.specs.threads.Shared.{Shared, next_item, next_record}
+use Rattle.nz_fabric.specs.threads.Steps.{batch_records, node_after, node_from, sends_after, sends_from, with_steps}
+use Rattle.nz_fabric.proofs.several_threads.Pushing.{length-sends_from, node_with_step}
 use Rattle.nz_actor.specs.Actings.{Acting, IsActing, IsStopped, sends_in, with_batch, with_item}
 
 -- ---- the start
@@ -62,15 +62,6 @@ sends_at_next g n now new es i e sends all next lt is so_far sent step pushed =
 
 -- ---- the records of a batch
 
--- the actor is at one record more where its step leads it to
-node_with_step : (g : Group) (own : ActorSteps) (r : Record) → r.actor ≡ own.actor → node_after g (with_step r own) ≡ (node_run g (node_after g own) r.event).0
-node_with_step g own r same = ap (λ (s : _). let n : Node = record { actor = own.actor; state = s } in n) (acts_itself g own.actor r own.steps same)
-
--- it sends something on each event
-length-sends_from : (g : Group) (n : Node) (es : List Event) → length (sends_from g n es) ≡ length es
-length-sends_from g n [] = refl
-length-sends_from g n (e ∷ es) = ap suc (length-sends_from g (node_run g n e).0 es)
-
 -- the records of a batch lead the actor to where its events do
 node_with_steps : (g : Group) (own : ActorSteps) (tick : ℕ) (a : Actor) (es : List Event) (sends : List (List Parcel)) → a ≡ own.actor
     → length sends ≡ length es → node_after g (with_steps (batch_records tick a es sends) own) ≡ node_from g (node_after g own) es
@@ -87,21 +78,25 @@ pub sent : (g : Group) (own : ActorSteps) (meaning : Node) (batch : Batch) (es :
     → meaning ≡ node_after g own → sends ≡ sends_from g meaning es → sends ≡ sends_in g own batch
 sent g own meaning batch es sends are stands e = e ∙ ap (λ (n : Node). sends_from g n es) stands ∙ ap (sends_from g (node_after g own)) are
 
+-- the core comes to where the events lead the actor after its records
+pub arrived : (g : Group) (own : ActorSteps) (old new : Node) (batch : Batch) (es : List Event) → es ≡ batch.events
+    → old ≡ node_after g own → new ≡ node_from g old es → new ≡ node_from g (node_after g own) batch.events
+arrived g own old new batch es are stands e = e ∙ ap (λ (n : Node). node_from g n es) stands ∙ ap (node_from g (node_after g own)) are
+
 -- the core is there after the batch, where this was recorded
-pub acting_after : (g : Group) (own now : ActorSteps) (old new : Node) (live : Bool) (fits : Type 0) (tick : ℕ) (batch : Batch) (es : List Event)
-    (sends : List (List Parcel)) (known : Type 0) (recorded : Bool) → fits → live ≡ true → es ≡ batch.events → old ≡ node_after g own
-    → new ≡ node_from g old es → sends ≡ sends_in g own batch → batch.actor ≡ own.actor
+pub acting_after : (g : Group) (own now : ActorSteps) (new : Node) (live : Bool) (fits : Type 0) (tick : ℕ) (batch : Batch)
+    (sends : List (List Parcel)) (known : Type 0) (recorded : Bool) → fits → live ≡ true
+    → new ≡ node_from g (node_after g own) batch.events → sends ≡ sends_in g own batch → batch.actor ≡ own.actor
     → MatchBool recorded (known × (now ≡ with_steps (batch_records tick batch.actor batch.events sends) own)) (now.actor ≡ own.actor)
     → IsActing g new live fits (record { own = now; ready = recorded })
-acting_after g own now old new live fits tick batch es sends known recorded is_of lives are stands node sent same lane =
+acting_after g own now new live fits tick batch sends known recorded is_of lives node sent same lane =
     let long = ap length sent ∙ length-sends_from g (node_after g own) batch.events in
     record {
       is_of = is_of;
       there = λ is. record {
         lives = lives;
         stands =
-            node ∙ ap (λ (n : Node). node_from g n es) stands ∙ ap (node_from g (node_after g own)) are
-            ∙ sym (node_with_steps g own tick batch.actor batch.events sends same long)
+            node ∙ sym (node_with_steps g own tick batch.actor batch.events sends same long)
             ∙ ap (node_after g) (sym (subst (λ (b : Bool). MatchBool b
             (known × (now ≡ with_steps (batch_records tick batch.actor batch.events sends) own)) (now.actor ≡ own.actor)) is lane).1);
       };

@@ -3,10 +3,10 @@ use Rattle.std.specs.Prelude.{◌≡◌, ℕ, Bool, true, false, List}
 use Rattle.nz_machine.specs.declared.event.Parcel.{Parcel}
 use Rattle.nz_machine.specs.rules.State.{Group}
 use Rattle.nz_machine.specs.rules.Step.{Node}
-use Rattle.nz_fabric.specs.declared.batch.Batch.{Batch}
-use Rattle.nz_fabric.specs.Records.{ActorSteps, with_step}
-use Rattle.nz_fabric.specs.Shared.{Shared, next_item, next_record}
-use Rattle.nz_fabric.specs.Steps.{batch_records, node_after, sends_after, sends_from, with_steps}
+use Rattle.nz_fabric.specs.declared.threads.batch.Batch.{Batch}
+use Rattle.nz_fabric.specs.threads.Records.{ActorSteps, with_step}
+use Rattle.nz_fabric.specs.threads.Shared.{Shared, next_item, next_record}
+use Rattle.nz_fabric.specs.threads.Steps.{batch_records, node_after, sends_after, sends_from, with_steps}
 
 -- An actor with its records, and whether it takes batches.
 pub record Acting : Type 0 where

@@ -1,21 +1,21 @@
 //! The lock around an actor, and how a batch is played under it.
 
 ghost use Rattle.std.specs.Prelude.{◌<◌};
-ghost use Rattle.nz_fabric.specs.Shared.{ClosesAndTakes, PlaysNext};
+ghost use Rattle.nz_fabric.specs.threads.Shared.{ClosesAndTakes, PlaysNext};
 
 use crate::state::ActorState;
 use nz_base::NoMemory;
 use nz_edge::Gate;
-use nz_fabric::{Fabric, FabricState, Name, Share, Taken};
+use nz_fabric::{Fabric, FabricState, RunName, Share, Taken};
 use nz_machine::Core;
 use std::sync::{Mutex, Wait};
 
 /// An actor's state under its lock.
-pub struct ActorCell<N: Name, C: Core> {
+pub struct ActorCell<N: RunName, C: Core> {
     state: Mutex<ActorState<N, C>>,
 }
 
-impl<N: Name, C: Core> ActorCell<N, C> {
+impl<N: RunName, C: Core> ActorCell<N, C> {
     pub fn new(state: ActorState<N, C>) -> ActorCell<N, C> {
         ActorCell {
             state: Mutex::new(state),
@@ -70,7 +70,7 @@ impl<N: Name, C: Core> ActorCell<N, C> {
     }
 }
 
-impl<N: Name, C: Core + Drop> Drop for ActorCell<N, C> {
+impl<N: RunName, C: Core + Drop> Drop for ActorCell<N, C> {
     fn drop(self) {
         let ActorCell { state: _ } = self;
     }

@@ -3,16 +3,16 @@
 ghost use Rattle.std.specs.Prelude.{◌≡◌, ◌↔◌, ◌<◌, ℕ, [], true, false, IfSome, IsTrue, MatchBool};
 ghost use Rattle.nz_machine.specs.runs.Schedule.{group_of};
 ghost use Rattle.nz_machine.specs.rules.Step.{first_node};
-ghost use Rattle.nz_fabric.specs.Records.{steps_of};
-ghost use Rattle.nz_fabric.specs.Shared.{with_record, ClosesAndTakes, ClosesBatch, IsGivenUp};
-ghost use Rattle.nz_fabric.specs.Shared.{next_item, with_next, with_stop, HasNext};
-ghost use Rattle.nz_fabric.specs.States.{records_of};
-ghost use Rattle.nz_fabric.specs.Steps.{sends_after};
+ghost use Rattle.nz_fabric.specs.threads.Records.{steps_of};
+ghost use Rattle.nz_fabric.specs.threads.Shared.{with_record, ClosesAndTakes, ClosesBatch, IsGivenUp};
+ghost use Rattle.nz_fabric.specs.threads.Shared.{next_item, with_next, with_stop, HasNext};
+ghost use Rattle.nz_fabric.specs.alone.States.{records_of};
+ghost use Rattle.nz_fabric.specs.threads.Steps.{sends_after};
 ghost use Rattle.nz_actor.specs.Actings.{sends_in, with_batch, with_item, IsStopped, IsThere};
 
 use crate::steps::step_all;
 use nz_base::NoMemory;
-use nz_fabric::{Fabric, FabricState, Lane, Name, Share, Taken};
+use nz_fabric::{Fabric, FabricState, Lane, RunName, Share, Taken};
 use nz_machine::Core;
 use std::alloc::Global;
 use std::marker::Model;
@@ -20,7 +20,7 @@ use std::sync::Wait;
 
 /// An actor's core, and the actor's lane.
 #[derive(Drop)]
-pub struct ActorState<N: Name, C: Core> {
+pub struct ActorState<N: RunName, C: Core> {
     core: C,
     lane: Lane<N>,
     /// Whether the core has the state that the records of the lane lead to.
@@ -29,7 +29,7 @@ pub struct ActorState<N: Name, C: Core> {
     alloc: Global,
 }
 
-impl<N: Name, C: Core> Model for ActorState<N, C> {
+impl<N: RunName, C: Core> Model for ActorState<N, C> {
     ghost use Rattle.nz_machine.specs.runs.Schedule.{group_of};
     ghost use Rattle.nz_actor.specs.Actings.{Acting, IsActing};
 
@@ -41,7 +41,7 @@ impl<N: Name, C: Core> Model for ActorState<N, C> {
         (C.fits s.core (group_of N.scenario)) (record { own = s.lane; ready = s.ready }) };
 }
 
-impl<N: Name, C: Core> ActorState<N, C> {
+impl<N: RunName, C: Core> ActorState<N, C> {
     /// A core that has not stepped.
     pub fn new(alloc: Global, core: C, lane: Lane<N>) -> ActorState<N, C>
         requires fits { C.fits core (group_of N.scenario) }
@@ -158,7 +158,7 @@ impl<N: Name, C: Core> ActorState<N, C> {
     }
 }
 
-impl<N: Name, C: Core + Drop> ActorState<N, C> {
+impl<N: RunName, C: Core + Drop> ActorState<N, C> {
     /// The core, where all of its actor's records led it to its state.
     pub fn into_core(self, fabric: &FabricState<N>) -> Option<C>
         ensures fits { IfSome result (λ core. C.fits core (group_of N.scenario)) }

@@ -2,7 +2,7 @@
 
 ghost use Rattle.std.specs.Prelude.{◌≡◌, true, IfOk, OnOk};
 ghost use Rattle.nz_machine.specs.rules.State.{Group};
-ghost use Rattle.nz_fabric.specs.Steps.{node_from, sends_from};
+ghost use Rattle.nz_fabric.specs.threads.Steps.{node_from, sends_from};
 
 use nz_base::NoMemory;
 use nz_machine::{Core, Event, Sends};

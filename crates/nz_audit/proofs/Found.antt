@@ -3,8 +3,7 @@ use Rattle.std.proofs.Common.{◌≡◌, ℕ, zero, suc, ◌+◌, ◌<◌, ◌�
 use Rattle.std.proofs.Common.{Option, None, Some, refl, sym, ap, subst, ◌∙◌, inl, inr, arith, length-take}
 use Rattle.std.specs.Prelude.{slice_get, IsPermutation}
 use Rattle.std.specs.List.{AllByRecursion}
-use Rattle.std.proofs.lemmas.List.Elements.{All-from_recursion, recursion_from_All}
-use Rattle.std.proofs.lemmas.List.Sorted.{All-permutation, IsPermutation-sym}
+use Rattle.std.proofs.lemmas.List.Sorted.{IsPermutation-sym}
 use Rattle.std.proofs.lemmas.List.{reverse-append, take-append-drop}
 use Rattle.std.proofs.lemmas.Option.{get_or_from_slice_get, slice_get_within}
 use Rattle.nz_base.specs.declared.actor.Actor.TheVariants.{Replica}
@@ -18,8 +17,8 @@ use Rattle.nz_machine.specs.journals.Journals.{group_in, run_in}
 use Rattle.nz_machine.specs.rules.State.{ReplicaData}
 use Rattle.nz_machine.specs.runs.World.{World, Has}
 use Rattle.nz_machine.specs.runs.History.{log_at, cut_at, cut_after, history}
-use Rattle.nz_machine.proofs.lists.EachItem.{all_imply}
-use Rattle.nz_machine.proofs.runs.Runs.{all_has, has_left, has_right, has_split}
+use Rattle.nz_machine.proofs.lists.EachItem.{all_imply, all_permuted}
+use Rattle.nz_machine.proofs.runs.Runs.{all_has, all_if_has, has_left, has_right, has_split}
 use Rattle.nz_machine.proofs.journals.JournalPrefixes.{world_with}
 use Rattle.nz_audit.specs.declared.source.AcceptedAt.{AcceptedAt}
 use Rattle.nz_audit.specs.declared.source.AcceptedAnswer.{AcceptedAnswer}
@@ -74,9 +73,6 @@ has_itself : {X : Type 0} (xs : List X) → AllByRecursion (Has xs) xs
 has_itself [] = tt
 has_itself (x ∷ xs) = (inl refl, all_imply (Has xs) (Has (x ∷ xs)) (λ y h. inr h) xs (has_itself xs))
 
-pub all_permuted : {X : Type 0} (P : X → Type 0) (xs ys : List X) → IsPermutation xs ys → AllByRecursion P xs → AllByRecursion P ys
-all_permuted P xs ys same all = recursion_from_All P ys (All-permutation P xs ys same (All-from_recursion P xs all))
-
 -- ---- the log of the replica that is replayed
 
 cut_is : (log : List Entry) (o : Option ℕ) → take (length (cut_at o log)) log ≡ cut_at o log
@@ -121,10 +117,6 @@ none_without : {X : Type 0} (xs : List X) → ((x : X) → Has xs x → ⊥) →
 none_without [] h = refl
 none_without (x ∷ xs) h = absurd (h x (inl refl))
 
-pub all_of : {X : Type 0} (P : X → Type 0) (xs : List X) → ((x : X) → Has xs x → P x) → AllByRecursion P xs
-all_of P [] h = tt
-all_of P (x ∷ xs) h = (h x (inl refl), all_of P xs (λ y k. h y (inr k)))
-
 -- the order does not matter
 pub found_among : (journal : Journal) (xs ys : List AcceptedAnswer) (s : Search) → ((a : AcceptedAnswer) → Has xs a → Has ys a)
     → ((a : AcceptedAnswer) → Has ys a → Has xs a) → IsFound journal xs s → IsFound journal ys s
@@ -135,7 +127,7 @@ found_among journal xs ys s there back h = record { replays = h.replays; best = 
     by_best (Some b) best = record {
       counted = best.counted;
       among = there b.accepted best.among;
-      beats = all_of (IsNoLonger journal b) ys (λ a k. all_has (IsNoLonger journal b) xs a best.beats (back a k));
+      beats = all_if_has (IsNoLonger journal b) ys (λ a k. all_has (IsNoLonger journal b) xs a best.beats (back a k));
     }
 
 has_permuted : {X : Type 0} (xs ys : List X) (x : X) → IsPermutation xs ys → Has xs x → Has ys x

@@ -9,7 +9,7 @@ use Rattle.std.proofs.lemmas.Option.{none-some, same_Some}
 use Rattle.nz_machine.specs.declared.journal.Journal.{Journal}
 use Rattle.nz_machine.specs.runs.World.{Has}
 use Rattle.nz_machine.proofs.lists.EachItem.{all_filter}
-use Rattle.nz_machine.proofs.runs.Runs.{all_has, has_left, has_right, has_split}
+use Rattle.nz_machine.proofs.runs.Runs.{all_if_has, all_has, has_left, has_right, has_split}
 use Rattle.nz_audit.specs.declared.source.Source.{Source}
 use Rattle.nz_audit.specs.declared.source.AcceptedAt.{AcceptedAt}
 use Rattle.nz_audit.specs.declared.source.AcceptedAnswer.{AcceptedAnswer}
@@ -17,7 +17,7 @@ use Rattle.nz_audit.specs.declared.source.Counted.{Counted}
 use Rattle.nz_audit.specs.declared.searching.Search.{Search}
 use Rattle.nz_audit.specs.Prefixes.{with_source, source_by, traced, all_traced, is_shorter, IsWithin, IsBestIfAny, IsFound}
 use Rattle.nz_audit.proofs.Longest.{best_stays}
-use Rattle.nz_audit.proofs.Found.{all_of, found_among}
+use Rattle.nz_audit.proofs.Found.{found_among}
 
 -- ---- items of lists
 
@@ -61,7 +61,7 @@ filtered_has p (z ∷ xs) x k = by_first (p z) refl (λ m. let t = filtered_has 
 
 pub traced_within : (journal : Journal) (some all : List AcceptedAt) → ((a : AcceptedAt) → Has some a → Has all a)
     → AllByRecursion (IsWithin journal) (all_traced journal all) → AllByRecursion (IsWithin journal) (all_traced journal some)
-traced_within journal some all among within = all_of (IsWithin journal) (all_traced journal some) (λ x k.
+traced_within journal some all among within = all_if_has (IsWithin journal) (all_traced journal some) (λ x k.
     let t = given_has (traced journal) some x k in
     all_has (IsWithin journal) (all_traced journal all) x within (has_given (traced journal) all t.0 x (among t.0 t.1.0) t.1.1))
 
@@ -103,7 +103,7 @@ found_skips journal done others s within h =
       best =
           best_stays_longest journal done (all_traced journal shorts) s.best
           (traced_within journal shorts others (λ a k. (filtered_has (is_short s.best) others a k).0) within)
-          (all_of (λ x. is_shorter s.best x.sent ≡ true) (all_traced journal shorts) (λ x k.
+          (all_if_has (λ x. is_shorter s.best x.sent ≡ true) (all_traced journal shorts) (λ x k.
           let t = given_has (traced journal) shorts x k in
           ap (is_shorter s.best) (sym (as_few_sent journal t.0 x t.1.1)) ∙ (filtered_has (is_short s.best) others t.0 t.1.0).1))
           h.best;

@@ -9,7 +9,7 @@ use Rattle.nz_base.proofs.Names.{id_eq_self}
 use Rattle.nz_machine.specs.declared.journal.Journal.{Journal}
 use Rattle.nz_machine.specs.journals.Journals.{group_in, run_in}
 use Rattle.nz_machine.specs.runs.World.{World, Has}
-use Rattle.nz_machine.proofs.runs.Runs.{all_has}
+use Rattle.nz_machine.proofs.runs.Runs.{all_if_has, all_has}
 use Rattle.nz_audit.specs.declared.source.Source.{Source}
 use Rattle.nz_audit.specs.declared.source.AcceptedAt.{AcceptedAt}
 use Rattle.nz_audit.specs.declared.source.AcceptedAnswer.{AcceptedAnswer}
@@ -18,7 +18,7 @@ use Rattle.nz_replay.specs.Runs.{run_up_to}
 use Rattle.nz_audit.specs.Prefixes.{is_to, traced, all_traced, with_accepted, IsAccepted}
 use Rattle.nz_audit.specs.Readings.{IsTable, IsKnown}
 use Rattle.nz_audit.proofs.Accepting.{traced_more}
-use Rattle.nz_audit.proofs.Found.{all_of, is_at}
+use Rattle.nz_audit.proofs.Found.{is_at}
 use Rattle.nz_audit.proofs.Tables.{source_at_end}
 
 pub all_at : {X : Type 0} (P : X → Type 0) (xs : List X) (i : ℕ) (d : X) → AllByRecursion P xs → i < length xs → P (get_or xs i d)
@@ -44,7 +44,7 @@ is_known journal w a table world accepted wanted h = record {
 pub all_known : (journal : Journal) (w : Id → Bool) (answers : List AcceptedAt) (table : List (ParcelKey × Option Source))
     → World (group_in journal) (run_in journal) → AllByRecursion (IsAccepted journal) answers → ((id : Id) → w id ≡ list_any (is_to id) answers)
     → IsTable (group_in journal) w (run_in journal) table → AllByRecursion (IsKnown journal table) answers
-all_known journal w answers table world accepted wanted h = all_of (IsKnown journal table) answers (λ a k.
+all_known journal w answers table world accepted wanted h = all_if_has (IsKnown journal table) answers (λ a k.
     is_known journal w a table world (all_has (IsAccepted journal) answers a accepted k) (wanted a.id ∙ is_wanted answers a k) h)
 
 pub traced_next : (journal : Journal) (answers : List AcceptedAt) (i : ℕ) (d : AcceptedAt) (old new : List AcceptedAnswer) → i < length answers

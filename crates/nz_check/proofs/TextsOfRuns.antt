@@ -25,7 +25,7 @@ use Rattle.nz_machine.specs.runs.Events.{accepted_by, sent_after, sent_by, clien
 use Rattle.nz_machine.specs.runs.History.{history}
 use Rattle.nz_machine.specs.runs.OneHistory.{Precedes}
 use Rattle.nz_machine.specs.journals.Journals.{executed_if_answered, executed_from}
-use Rattle.nz_machine.proofs.runs.Runs.{all_has, group_of}
+use Rattle.nz_machine.proofs.runs.Runs.{all_if_has, all_has, group_of}
 use Rattle.nz_machine.proofs.lists.EachItem.{all_append}
 use Rattle.nz_machine.proofs.lists.ListParts.{all_map, all_flat_map}
 use Rattle.nz_machine.proofs.runs.FitRuns.{FitsState, all_fit}
@@ -116,12 +116,8 @@ event_fits g J (Accepted id answer path) w h =
       reply_fits (commands covered.prefix) by.place answer by.answered,
     )
 
-all_by : {X : Type 0} (P : X → Type 0) (xs : List X) → ((x : X) → Has xs x → P x) → AllByRecursion P xs
-all_by P [] h = tt
-all_by P (x ∷ xs) h = (h x (inl refl), all_by P xs (λ y k. h y (inr k)))
-
 events_fit : (g : Group) (J : List Record) → World g J → AllByRecursion FitsEvent (events_in g J)
-events_fit g J w = all_map FitsEvent event_of (events g J) (all_by (λ t. FitsEvent (event_of t)) (events g J) (λ t h. event_fits g J t w h))
+events_fit g J w = all_map FitsEvent event_of (events g J) (all_if_has (λ t. FitsEvent (event_of t)) (events g J) (λ t h. event_fits g J t w h))
 
 open_fits : (E : List Event) (e : Event) → FitsEvent e → AllByRecursion FitsId (open_in E e)
 open_fits E (Send id command) h = cond_both (list_any (accepts_it id) E) [] (id ∷ []) (AllByRecursion FitsId) (λ _. tt) (λ _. (h.0, tt))
@@ -138,7 +134,7 @@ abbrev IsRequest : Entry → Type 0
 IsRequest e = FitsId (id_of e.key) × IsSome (command_of e.command)
 
 requests : (g : Group) (J : List Record) → World g J → AllByRecursion IsRequest (history g J)
-requests g J w = all_by IsRequest (history g J) (λ e h. request_fits g J (id_of e.key) e.command w (history_sent g J w e h))
+requests g J w = all_if_has IsRequest (history g J) (λ e h. request_fits g J (id_of e.key) e.command w (history_sent g J w e h))
 
 answered_fits : (H : List Entry) (place : ℕ) (e : Entry) (o : Option Answer) → reply (commands H) place ≡ o
     → IsRequest e → AllByRecursion FitsExecuted (executed_if_answered e o)

@@ -6,15 +6,18 @@ ghost use Rattle.nz_machine.specs.runs.Schedule.{InOrder, IsPlayable};
 ghost use Rattle.nz_machine.specs.rules.State.{Group};
 ghost use Rattle.nz_machine.specs.journals.Tellings.{AreNoted};
 ghost use Rattle.nz_machine.specs.runs.World.{World};
-ghost use Rattle.nz_fabric.specs.States.{IsDone, IsKeptRun, IsNextTurn, IsOpen, after_tick, records_of, start_state, with_mark, with_recorded, with_taken};
+ghost use Rattle.nz_fabric.specs.alone.States.{IsDone, IsKeptRun, IsNextItem, IsOpen};
+ghost use Rattle.nz_fabric.specs.alone.States.{after_tick, records_of, start_state, with_mark, with_recorded, with_taken};
 
-use crate::agenda::Agenda;
-use crate::due::clocks_of;
-use crate::posting::post_all;
-use crate::ticks::Ticks;
-use crate::turn::Turn;
+pub mod open_item;
+
+use crate::schedule::agenda::Agenda;
+use crate::schedule::due::clocks_of;
+use crate::schedule::posting::post_all;
+use crate::schedule::ticks::Ticks;
 use nz_base::{NoMemory, Scenario};
 use nz_machine::{Forgotten, Item, Journal, Notes, Record, Recording, Sends};
+use open_item::OpenItem;
 use std::alloc::Global;
 use std::marker::Model;
 
@@ -38,7 +41,7 @@ pub struct Alone {
 
 impl Model for Alone {
     ghost use Rattle.std.specs.Prelude.{◌+◌};
-    ghost use Rattle.nz_fabric.specs.States.{State, IsHeld, IsInMemory, state_in};
+    ghost use Rattle.nz_fabric.specs.alone.States.{State, IsHeld, IsInMemory, state_in};
 
     ghost Value = { State };
 
@@ -81,11 +84,11 @@ impl Alone {
         })
     }
 
-    /// The invariant of this type, for the caller's proof. Does nothing.
-    pub fn kept(&self)
+    /// Does nothing.
+    pub fn show_invariant(&self)
         ensures { IsKeptRun self.now }
     {
-        let _ = &self.ticks;
+        let _known = &self.ticks; // shows: the invariant of this type
     }
 
     /// How many records there are, in memory or not.
@@ -103,13 +106,13 @@ impl Alone {
     }
 
     /// The next due item of the tick. Its place among the records is reserved here.
-    pub fn take(&mut self) -> Result<Option<Turn>, NoMemory>
+    pub fn take(&mut self) -> Result<Option<OpenItem>, NoMemory>
         requires { self.old.marked ≡ false → self.old.next ≡ length self.old.here }
         ensures { MatchResult result
-            (λ turn.
-            MatchOption turn
+            (λ opened.
+            MatchOption opened
             ((self.new ≡ self.old) × ((self.old.marked ≡ true) ⊎ (self.old.next ≡ length self.old.items)))
-            (λ turn. (self.new ≡ with_taken self.old) × (self.old.marked ≡ false) × IsNextTurn self.old turn))
+            (λ opened. (self.new ≡ with_taken self.old) × (self.old.marked ≡ false) × IsNextItem self.old opened))
             (λ _. self.new ≡ self.old) }
     {
         if self.ticks.marked || self.agenda.is_done() {
@@ -121,7 +124,7 @@ impl Alone {
         }
         self.records.reserve(1)?;
         let Item { actor, event } = self.agenda.take();
-        Ok(Some(Turn {
+        Ok(Some(OpenItem {
             number: count as u64 + 1,
             tick: self.ticks.tick,
             actor,
@@ -129,17 +132,17 @@ impl Alone {
         }))
     }
 
-    /// The record of the turn comes last.
-    pub fn record(&mut self, turn: Turn, sends: Sends)
-        requires { IsOpen self.old turn }
-        ensures { self.new ≡ with_recorded turn sends self.old }
+    /// The record of the item comes last.
+    pub fn record(&mut self, opened: OpenItem, sends: Sends)
+        requires { IsOpen self.old opened }
+        ensures { self.new ≡ with_recorded opened sends self.old }
     {
-        let Turn {
+        let OpenItem {
             number: _,
             tick,
             actor,
             event,
-        } = turn;
+        } = opened;
         let step = Record {
             tick,
             actor,
@@ -150,17 +153,17 @@ impl Alone {
         self.records.push_reserved(step);
     }
 
-    /// Nothing is recorded, and no further turn is given.
-    pub fn give_up(&mut self, turn: Turn)
-        requires { IsOpen self.old turn }
+    /// Nothing is recorded, and no further item is given.
+    pub fn give_up(&mut self, opened: OpenItem)
+        requires { IsOpen self.old opened }
         ensures { self.new ≡ with_mark self.old }
     {
-        turn.into_number();
+        opened.into_number();
         self.ticks.marked = true;
     }
 
     /// Begins the next tick. Where records are not kept, those of this one go. False exactly where the last tick was done.
-    /// After `NoMemory` no further turn is given.
+    /// After `NoMemory` no further item is given.
     pub fn next_tick(&mut self) -> Result<bool, NoMemory>
         requires { IsDone self.old }
         ensures { MatchResult result

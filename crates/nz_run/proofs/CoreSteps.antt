@@ -95,40 +95,36 @@ pub record Takes {C : Type 0} (meaning : C → Node) (live : C → Bool) (fits :
   pub lives : live new ≡ true
   pub is_of : (g : Group) → fits old g → fits new g
 
-after_by : {C : Type 0} (meaning : C → Node) (live : C → Bool) (fits : C → Group → Type 0) (g : Group)
-    (named : ℕ → Actor) (J : List Record) (cores : List C) (i : ℕ) (old new : C) (e : Event) (sends : List Parcel) (tick : ℕ)
-    → ((i k : ℕ) → actor_eq (named i) (named k) ≡ eqb i k) → AreAt meaning live fits g named J cores
-    → i < length cores → old ≡ get_or cores i old → Takes meaning live fits old new e sends
-    → (k : ℕ) (d : C) → k < length cores → (b : Bool) → eqb i k ≡ b
-    → IsAt g (record_of tick (named i) e sends ∷ J) (named k) (meaning (get_or (set cores i new) k d))
-    (live (get_or (set cores i new) k d)) (fits (get_or (set cores i new) k d) g)
-after_by meaning live fits g named J cores i old new e sends tick apart h lt at t k d below true eq =
-    let same : i ≡ k = eqb-true i k eq in
-    let was : IsAt g J (named i) (meaning old) (live old) (fits old g) =
-    subst (λ c. IsAt g J (named i) (meaning c) (live c) (fits c g)) (sym at) (h i old lt) in
-    let own = own_step g J (named i) (meaning old) (meaning new) e sends tick was.stands (t.step g was.is_of) in
-    let now : IsAt g (record_of tick (named i) e sends ∷ J) (named i) (meaning new) (live new) (fits new g) =
-    record { stands = own.1; lives = t.lives; is_of = t.is_of g was.is_of } in
-    let there : get_or (set cores i new) k d ≡ new = ap (λ n. get_or (set cores i new) n d) (sym same) ∙ get_or-set_same cores i new d lt in
-    subst (λ c. IsAt g (record_of tick (named i) e sends ∷ J) (named k) (meaning c) (live c) (fits c g)) (sym there)
-    (subst (λ n. IsAt g (record_of tick (named i) e sends ∷ J) (named n) (meaning new) (live new) (fits new g)) same now)
-after_by meaning live fits g named J cores i old new e sends tick apart h lt at t k d below false eq =
-    let there : get_or (set cores i new) k d ≡ get_or cores k d = get_or-set_other cores i k new d (grind (arith, nat_tests)) in
-    subst (λ c. IsAt g (record_of tick (named i) e sends ∷ J) (named k) (meaning c) (live c) (fits c g)) (sym there)
-    (stays_at g J (named k) (named i) e sends tick _ _ _ (apart i k ∙ eq) (h k d below))
-
 pub after_step : {C : Type 0} (meaning : C → Node) (live : C → Bool) (fits : C → Group → Type 0) (g : Group)
     (named : ℕ → Actor) (J : List Record) (cores : List C) (i : ℕ) (old new : C) (e : Event) (sends : List Parcel) (tick : ℕ)
     → ((i k : ℕ) → actor_eq (named i) (named k) ≡ eqb i k) → AreAt meaning live fits g named J cores
     → i < length cores → old ≡ get_or cores i old → Takes meaning live fits old new e sends
     → (sends ≡ sends_of g J (named i) e) × AreAt meaning live fits g named (record_of tick (named i) e sends ∷ J) (set cores i new)
-after_step meaning live fits g named J cores i old new e sends tick apart h lt at t =
-    let was : IsAt g J (named i) (meaning old) (live old) (fits old g) =
-    subst (λ c. IsAt g J (named i) (meaning c) (live c) (fits c g)) (sym at) (h i old lt) in (
-      (own_step g J (named i) (meaning old) (meaning new) e sends tick was.stands (t.step g was.is_of)).0,
-      λ k d below. after_by meaning live fits g named J cores i old new e sends tick apart h lt at t k d
-          (let l = length-set cores i new in omega (arith, l, below)) (eqb i k) refl,
-    )
+after_step {C} meaning live fits g named J cores i old new e sends tick apart h lt at t = (
+  own.0,
+  λ k d below. each k d (let l = length-set cores i new in omega (arith, l, below)) (eqb i k) refl,
+)
+  where
+    was : IsAt g J (named i) (meaning old) (live old) (fits old g)
+    was = subst (λ c. IsAt g J (named i) (meaning c) (live c) (fits c g)) (sym at) (h i old lt)
+
+    own : (sends ≡ sends_of g J (named i) e)
+        × (meaning new ≡ record { actor = named i; state = state_after g (named i) (record_of tick (named i) e sends ∷ J) })
+    own = own_step g J (named i) (meaning old) (meaning new) e sends tick was.stands (t.step g was.is_of)
+
+    each : (k : ℕ) (d : C) → k < length cores → (b : Bool) → eqb i k ≡ b
+        → IsAt g (record_of tick (named i) e sends ∷ J) (named k) (meaning (get_or (set cores i new) k d))
+        (live (get_or (set cores i new) k d)) (fits (get_or (set cores i new) k d) g)
+    each k d below true eq =
+        let same : i ≡ k = eqb-true i k eq in
+        let there : get_or (set cores i new) k d ≡ new = ap (λ n. get_or (set cores i new) n d) (sym same) ∙ get_or-set_same cores i new d lt in
+        subst (λ c. IsAt g (record_of tick (named i) e sends ∷ J) (named k) (meaning c) (live c) (fits c g)) (sym there)
+        (subst (λ n. IsAt g (record_of tick (named i) e sends ∷ J) (named n) (meaning new) (live new) (fits new g)) same
+        (record { stands = own.1; lives = t.lives; is_of = t.is_of g was.is_of }))
+    each k d below false eq =
+        let there : get_or (set cores i new) k d ≡ get_or cores k d = get_or-set_other cores i k new d (grind (arith, nat_tests)) in
+        subst (λ c. IsAt g (record_of tick (named i) e sends ∷ J) (named k) (meaning c) (live c) (fits c g)) (sym there)
+        (stays_at g J (named k) (named i) e sends tick _ _ _ (apart i k ∙ eq) (h k d below))
 
 -- ---- results of calls
 
@@ -166,6 +162,7 @@ got_or [] i x d e = absurd (none-some x e)
 got_or (y ∷ xs) zero x d e = same_Some y x e
 got_or (y ∷ xs) (suc i) x d e = got_or xs i x d e
 
+-- the script of a client of a playable scenario can be sent
 pub sendable : (s : Scenario) (i : ℕ) (script : List Request) → IsPlayable s → slice_get s.scripts i ≡ Some script → AreSendable script
 sendable s i script play e =
     let asked : AllByRecursion HasCommand script =

@@ -5,6 +5,7 @@ use Rattle.std.proofs.lemmas.List.Sums.{sum_by-append}
 use Rattle.std.proofs.lemmas.List.{get_or_append_left}
 use Rattle.std.proofs.Math.Seq.{get_or-append_seam, take-append_seam}
 
+-- the sums without the last one
 pub fewer : {W : Type 0} (f g : W → ℕ) (xs ys : List W) (w : W) → xs ≡ ys ++ w ∷ [] → All (λ v. g v ≡ 0) xs
     → (sum_by f xs ≡ sum_by f ys + f w) × All (λ v. g v ≡ 0) ys × (g w ≡ 0)
 fewer f g xs ys w is all =

@@ -9,7 +9,7 @@ use Rattle.nz_machine.specs.declared.event.Record.{Record}
 use Rattle.nz_machine.specs.rules.Replicas.{first_replica}
 use Rattle.nz_machine.specs.rules.State.{Group, ReplicaData, State}
 use Rattle.nz_machine.specs.rules.Step.{Node}
-use Rattle.nz_fabric.specs.Records.{steps_of}
+use Rattle.nz_fabric.specs.threads.Records.{steps_of}
 use Rattle.nz_machine.proofs.runs.OwnStates.{own_state}
 use Rattle.nz_actor.specs.Actings.{IsThere}
 use Rattle.nz_replica.specs.Models.{ReplicaCore, IsCore, AreCores}

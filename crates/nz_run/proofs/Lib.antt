@@ -1,7 +1,7 @@
 -- The modules of this crate's proofs.
 pub mod Crossing
 pub mod CoreSteps
-pub mod Turning
+pub mod NextItem
 pub mod AllCores
 pub mod DealtShares
 pub mod FirstCores

@@ -2,7 +2,7 @@
 use Rattle.std.proofs.Common.{◌≡◌, ℕ, Bool, true, false, List, ap}
 use Rattle.std.specs.Prelude.{MatchBool}
 use Rattle.nz_machine.specs.declared.event.Parcel.{Parcel}
-use Rattle.nz_fabric.specs.Shared.{Shared, with_record, IsGivenUp}
+use Rattle.nz_fabric.specs.threads.Shared.{Shared, with_record, IsGivenUp}
 
 -- recorded or given up, it was taken as before
 pub same_items : (old new : Shared) (number : ℕ) (sends : List (List Parcel)) (recorded : Bool)

@@ -6,7 +6,7 @@ use Rattle.nz_machine.specs.declared.event.Record.{Record}
 use Rattle.nz_machine.specs.declared.journal.Item.{Item}
 use Rattle.nz_machine.specs.runs.Schedule.{InOrderTo}
 use Rattle.nz_machine.proofs.lists.EachItem.{all_append, all_imply}
-use Rattle.nz_fabric.specs.States.{State, IsBegun, IsKeptRun, records_of}
+use Rattle.nz_fabric.specs.alone.States.{State, IsBegun, IsKeptRun, records_of}
 
 up_to_later : (t : ℕ) (J : List Record) → AllByRecursion (λ (r : Record). r.tick ≤ t) J → AllByRecursion (λ (r : Record). r.tick ≤ suc t) J
 up_to_later t J h = all_imply (λ (r : Record). r.tick ≤ t) (λ (r : Record). r.tick ≤ suc t) (λ r own. omega (arith, own)) J h

@@ -14,7 +14,7 @@ use Rattle.nz_machine.specs.rules.Clients.{first_client}
 use Rattle.nz_machine.specs.rules.Step.{Node, node_step, script_of}
 use Rattle.nz_machine.specs.runs.World.{state_after, World}
 use Rattle.nz_machine.specs.runs.Schedule.{group_of}
-use Rattle.nz_fabric.specs.States.{State, records_of}
+use Rattle.nz_fabric.specs.alone.States.{State, records_of}
 use Rattle.nz_replica.specs.Models.{ReplicaCore}
 use Rattle.nz_proxy.specs.Models.{ProxyCore}
 use Rattle.nz_client.specs.Models.{ClientCore, IsClientInGroup}

@@ -3,7 +3,7 @@ use Rattle.std.specs.Prelude.{◌≡◌, ℕ, ◌+◌, ◌<◌, ◌≤◌, List}
 use Rattle.std.specs.List.{AllByRecursion}
 use Rattle.nz_base.specs.declared.scenario.Scenario.{Scenario}
 use Rattle.nz_machine.specs.declared.event.Record.{Record}
-use Rattle.nz_fabric.specs.States.{IsDone, records_of}
+use Rattle.nz_fabric.specs.alone.States.{IsDone, records_of}
 use Rattle.nz_run.specs.declared.playing.Playing.{Playing}
 use Rattle.nz_run.specs.Casts.{IsUnderWay}
 

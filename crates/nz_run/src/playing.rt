@@ -2,7 +2,7 @@
 
 ghost use Rattle.std.specs.Prelude.{◌≡◌, ◌+◌, ◌<◌, ◌≤◌, [], length, reverse, MatchBool, MatchOption, IfOk, IfSome, OnOk};
 ghost use Rattle.nz_base.specs.Cluster.{replica_count};
-ghost use Rattle.nz_fabric.specs.States.{IsDone, IsQuiet};
+ghost use Rattle.nz_fabric.specs.alone.States.{IsDone, HasNoOpenItem};
 ghost use Rattle.nz_machine.specs.journals.Journals.{group_in, run_in};
 ghost use Rattle.nz_machine.specs.runs.Schedule.{group_of, InOrder, IsPlayable};
 ghost use Rattle.nz_machine.specs.journals.Tellings.{AreNoted};
@@ -28,24 +28,24 @@ pub struct Playing {
 
 /// Plays the next due item of the tick. False where there is none left.
 fn play_next(alone: &mut Alone, cast: &mut Cast) -> Result<bool, NoMemory>
-    requires quiet { IsQuiet alone.old }
+    requires none_open { HasNoOpenItem alone.old }
     requires under_way { IsUnderWay alone.old cast.old }
     ensures { IfOk result (λ more. MatchBool more
-        (IsQuiet alone.new × (IsUnderWay alone.new cast.new
+        (HasNoOpenItem alone.new × (IsUnderWay alone.new cast.new
         × ((alone.new ≡ record alone.old { here = alone.new.here; next = alone.old.next + 1 }) × (alone.old.next < length alone.old.items))))
         ((alone.new ≡ alone.old) × ((cast.new ≡ cast.old) × (alone.old.next ≡ length alone.old.items)))) }
 {
-    alone.kept();
-    let Some(turn) = alone.take()? else {
+    alone.show_invariant();
+    let Some(opened) = alone.take()? else {
         return Ok(false);
     };
-    match cast.step(turn.actor, &turn.event) {
+    match cast.step(opened.actor, &opened.event) {
         Ok(sends) => {
-            alone.record(turn, sends);
+            alone.record(opened, sends);
             Ok(true)
         }
         Err(error) => {
-            alone.give_up(turn);
+            alone.give_up(opened);
             Err(error)
         }
     }
@@ -53,7 +53,7 @@ fn play_next(alone: &mut Alone, cast: &mut Cast) -> Result<bool, NoMemory>
 
 /// Plays what is left of a tick.
 fn play_rest(alone: &mut Alone, cast: &mut Cast) -> Result<(), NoMemory>
-    requires quiet { IsQuiet alone.old }
+    requires none_open { HasNoOpenItem alone.old }
     requires under_way { IsUnderWay alone.old cast.old }
     ensures done { OnOk result (IsDone alone.new) }
     ensures under_way { OnOk result (IsUnderWay alone.new cast.new) }
@@ -61,7 +61,7 @@ fn play_rest(alone: &mut Alone, cast: &mut Cast) -> Result<(), NoMemory>
     ensures tick { OnOk result (alone.new.tick ≡ alone.old.tick) }
     ensures earlier { OnOk result (alone.new.finished ≡ alone.old.finished) }
 {
-    'turns: while play_next(alone, cast)? {}
+    'items: while play_next(alone, cast)? {}
     Ok(())
 }
 
@@ -87,12 +87,12 @@ impl Playing {
             (IsNextTick self.old self.new)
             ((self.new ≡ self.old) × (tick_of self.old ≡ (scenario_of self.old).ticks))) }
     {
-        self.alone.kept();
+        self.alone.show_invariant();
         if !self.alone.next_tick()? {
             return Ok(false);
         }
         play_rest(&mut self.alone, &mut self.cast)?;
-        self.alone.kept();
+        self.alone.show_invariant();
         Ok(true)
     }
 

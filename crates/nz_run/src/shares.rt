@@ -2,19 +2,19 @@
 
 ghost use Rattle.std.specs.Prelude.{◌≡◌, ◌+◌, ◌<◌, ◌≤◌, ℕ, [], length, vec_len, vec_capacity, All, sum_by};
 ghost use Rattle.nz_base.specs.declared.limits.TheConstants.{MAX_WORKERS};
-ghost use Rattle.nz_fabric.specs.Shared.{IsWhole};
+ghost use Rattle.nz_fabric.specs.threads.Shared.{IsWhole};
 
-use nz_fabric::{Name, Share};
+use nz_fabric::{RunName, Share};
 
 /// A worker, with its share.
 #[derive(Drop)]
-pub struct Worker<N: Name> {
+pub struct Worker<N: RunName> {
     pub number: u8,
     pub share: Share<N>,
 }
 
 /// Deals the whole share out.
-pub fn deal<N: Name>(whole: Share<N>, workers: &mut Vec<Worker<N>>, count: u8)
+pub fn deal<N: RunName>(whole: Share<N>, workers: &mut Vec<Worker<N>>, count: u8)
     requires whole { IsWhole whole }
     requires count { (0 < count) × (count ≤ MAX_WORKERS) }
     requires room { (workers.old.items ≡ []) × (count ≤ vec_capacity workers.old) }
@@ -34,7 +34,7 @@ pub fn deal<N: Name>(whole: Share<N>, workers: &mut Vec<Worker<N>>, count: u8)
 }
 
 /// Puts the shares together again.
-pub fn gather<N: Name>(workers: Vec<Worker<N>>) -> Share<N>
+pub fn gather<N: RunName>(workers: Vec<Worker<N>>) -> Share<N>
     requires idle { All (λ w. w.share.amount ≡ 0) workers.items }
     requires parts { sum_by (λ w. w.share.parts) workers.items ≡ MAX_WORKERS }
     ensures { IsWhole result }

@@ -2,17 +2,17 @@
 
 ghost use Rattle.std.specs.Prelude.{◌≡◌, ◌+◌, ◌<◌, [], length, All, IfOk, IfSome};
 ghost use Rattle.nz_machine.specs.runs.Schedule.{group_of, IsPlayable};
-ghost use Rattle.nz_fabric.specs.States.{records_of};
+ghost use Rattle.nz_fabric.specs.alone.States.{records_of};
 ghost use Rattle.nz_replica.specs.Models.{AreCores, IsCore};
 ghost use Rattle.nz_run.specs.Stages.{HasNotStepped};
-ghost use Rattle.nz_fabric.specs.Shared.{ClosesAndTakes, ClosesBatch, PlaysNext};
+ghost use Rattle.nz_fabric.specs.threads.Shared.{ClosesAndTakes, ClosesBatch, PlaysNext};
 
 use crate::cast::Cast;
 use nz_actor::{ActorCell, ActorState};
 use nz_base::{Actor, NoMemory, Scenario};
 use nz_client::Client;
 use nz_edge::Gate;
-use nz_fabric::{Fabric, FabricState, Name, Share, Taken};
+use nz_fabric::{Fabric, FabricState, RunName, Share, Taken};
 use nz_machine::Core;
 use nz_proxy::Proxy;
 use nz_replica::Replica;
@@ -21,14 +21,14 @@ use std::sync::Wait;
 
 /// All actors, each under its own lock and found by its number.
 #[derive(Drop)]
-pub struct Stage<N: Name> {
+pub struct Stage<N: RunName> {
     pub replicas: Vec<ActorCell<N, Replica>>,
     pub proxies: Vec<ActorCell<N, Proxy>>,
     pub clients: Vec<ActorCell<N, Client>>,
 }
 
 /// Each core under a lock, before the first record.
-fn cells_of<N: Name, C: Core + Drop>(
+fn cells_of<N: RunName, C: Core + Drop>(
     alloc: Global,
     cores: Vec<C>,
     state: &FabricState<N>,
@@ -45,7 +45,7 @@ fn cells_of<N: Name, C: Core + Drop>(
 }
 
 /// The cell of a place plays the batch. Where there is none it is given up. Gives the next batch of the worker.
-pub fn play_at<N: Name, C: Core>(
+pub fn play_at<N: RunName, C: Core>(
     rt: &impl Wait,
     cells: &[ActorCell<N, C>],
     place: u8,
@@ -66,7 +66,7 @@ pub fn play_at<N: Name, C: Core>(
 }
 
 /// The cell of a place plays the next item. Where there is none no further item is given.
-fn step_at<N: Name, C: Core>(
+fn step_at<N: RunName, C: Core>(
     rt: &impl Wait,
     cells: &[ActorCell<N, C>],
     place: u8,
@@ -82,7 +82,7 @@ fn step_at<N: Name, C: Core>(
 }
 
 /// Plays the batch where no other thread has the cells.
-fn settle_at<N: Name, C: Core>(
+fn settle_at<N: RunName, C: Core>(
     cells: &mut [ActorCell<N, C>],
     place: u8,
     batch: Taken<N>,
@@ -106,7 +106,7 @@ fn settle_at<N: Name, C: Core>(
 }
 
 /// The replica of a place, where all of its records led it to its state.
-fn replica_at<N: Name>(
+fn replica_at<N: RunName>(
     cell: ActorCell<N, Replica>,
     place: usize,
     state: &FabricState<N>,
@@ -120,7 +120,7 @@ fn replica_at<N: Name>(
     }
 }
 
-impl<N: Name> Stage<N> {
+impl<N: RunName> Stage<N> {
     /// Actors that have not stepped.
     pub fn new(
         alloc: Global,

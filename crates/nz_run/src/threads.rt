@@ -4,7 +4,7 @@ ghost use Rattle.std.specs.Prelude.{◌≡◌, ◌⊎◌, ◌<◌, ◌≤◌, le
 ghost use Rattle.nz_machine.specs.journals.Journals.{group_in, run_in};
 ghost use Rattle.nz_machine.specs.runs.Schedule.{InOrder, IsPlayable, Scheduled};
 ghost use Rattle.nz_machine.specs.runs.World.{World};
-ghost use Rattle.nz_fabric.specs.Shared.{IsOver, IsWhole};
+ghost use Rattle.nz_fabric.specs.threads.Shared.{IsOver, IsWhole};
 ghost use Rattle.nz_base.specs.Cluster.{replica_count};
 ghost use Rattle.nz_replica.specs.Models.{AreCores};
 ghost use Rattle.nz_base.specs.declared.limits.TheConstants.{MAX_WORKERS};
@@ -13,10 +13,10 @@ use crate::alone::run_alone;
 use crate::played::Played;
 use crate::shares::{deal, gather};
 use crate::stage::Stage;
-use crate::workers::{play_small_ticks, work_all};
+use crate::workers::{play_light_ticks, work_all};
 use nz_base::{MAX_WORKERS, NoMemory, Scenario, TryCopy};
 use nz_edge::Gate;
-use nz_fabric::{Fabric, FabricState, Name, Opened, Share};
+use nz_fabric::{Fabric, FabricState, Opened, RunName, Share};
 use std::alloc::Global;
 use std::marker::Brand;
 use std::sync::Wait;
@@ -24,7 +24,7 @@ use std::sync::ledger::Blank;
 use std::thread::Threads;
 
 /// Does what is left of the tick.
-fn finish<N: Name>(
+fn finish<N: RunName>(
     state: &mut FabricState<N>,
     share: &mut Share<N>,
     stage: &mut Stage<N>,
@@ -41,9 +41,9 @@ fn finish<N: Name>(
     Ok(())
 }
 
-/// All ticks, but what is left of them where memory runs out. One worker plays alone until a tick is not small, and only then
+/// All ticks, but what is left of them where memory runs out. One worker plays alone until a tick is not light, and only then
 /// are the others started. The whole share comes back, with no batch on it.
-fn play_ticks<N: Name + Send + Sync, R: Threads + Wait + Sync, G: Gate + Sync>(
+fn play_ticks<N: RunName + Send + Sync, R: Threads + Wait + Sync, G: Gate + Sync>(
     rt: &R,
     alloc: Global,
     state: FabricState<N>,
@@ -57,7 +57,7 @@ fn play_ticks<N: Name + Send + Sync, R: Threads + Wait + Sync, G: Gate + Sync>(
     ensures { IfOk result (λ r. IsWhole r.1) }
 {
     let mut state = state;
-    if !play_small_ticks(rt, stage, &mut state) {
+    if !play_light_ticks(rt, stage, &mut state) {
         return Ok((state, share));
     }
     let mut workers = Vec::new(alloc);
@@ -70,7 +70,7 @@ fn play_ticks<N: Name + Send + Sync, R: Threads + Wait + Sync, G: Gate + Sync>(
 }
 
 /// Does what the workers left. `None` where a batch was given up.
-fn finish_all<N: Name, R: Wait>(
+fn finish_all<N: RunName, R: Wait>(
     rt: &R,
     state: FabricState<N>,
     share: Share<N>,
@@ -94,7 +94,7 @@ fn finish_all<N: Name, R: Wait>(
 }
 
 /// A run under its name. `None` where it is to be done anew.
-fn run_named<N: Name + Send + Sync, R: Threads + Wait + Sync, G: Gate + Sync>(
+fn run_named<N: RunName + Send + Sync, R: Threads + Wait + Sync, G: Gate + Sync>(
     rt: &R,
     alloc: Global,
     blank: Blank,

@@ -6,15 +6,15 @@ use crate::shares::Worker;
 use crate::stage::Stage;
 use nz_base::MAX_WORKERS;
 use nz_edge::Gate;
-use nz_fabric::{Fabric, FabricState, Name};
+use nz_fabric::{Fabric, FabricState, RunName};
 use std::sync::Wait;
 use std::thread;
 use std::thread::Threads;
 
-/// Begins the next tick and plays it item by item as long as it is small, and so on. For a worker that has the network while
+/// Begins the next tick and plays it item by item as long as it is light, and so on. For a worker that has the network while
 /// all others wait, or before they are started, so nobody holds an actor's lock while waiting for the network. True once a
-/// tick is not small, false where no further item is given.
-pub fn play_small_ticks<N: Name, R: Wait>(
+/// tick is not light, false where no further item is given.
+pub fn play_light_ticks<N: RunName, R: Wait>(
     rt: &R,
     stage: &Stage<N>,
     state: &mut FabricState<N>,
@@ -27,7 +27,7 @@ pub fn play_small_ticks<N: Name, R: Wait>(
         } else if !stage.step_next(rt, state) {
             return false;
         }
-        if !state.is_small() {
+        if !state.is_light() {
             return true;
         }
     }
@@ -36,18 +36,18 @@ pub fn play_small_ticks<N: Name, R: Wait>(
 
 /// For a worker that was given no batch. Begins the next tick where all that was due in this one was recorded, and waits
 /// where only batches of other workers are left. False where no further batch is given.
-fn go_on<N: Name, R: Wait>(rt: &R, stage: &Stage<N>, fabric: &Fabric<N>) -> bool {
+fn go_on<N: RunName, R: Wait>(rt: &R, stage: &Stage<N>, fabric: &Fabric<N>) -> bool {
     let mut guard = fabric.lock(rt);
     if !guard.is_over() {
         return fabric.wait(rt, guard);
     }
     let state = &mut *guard;
     let begun = if state.is_alone() {
-        play_small_ticks(rt, stage, state)
+        play_light_ticks(rt, stage, state)
     } else {
         state.next_tick().unwrap_or(false)
     };
-    let wakes = !begun || !state.is_small();
+    let wakes = !begun || !state.is_light();
     // Those that wake want the network.
     drop(guard);
     if wakes {
@@ -57,7 +57,7 @@ fn go_on<N: Name, R: Wait>(rt: &R, stage: &Stage<N>, fabric: &Fabric<N>) -> bool
 }
 
 /// Takes batches, tick after tick, until no further one is given.
-fn play_batches<N: Name, R: Wait, G: Gate>(
+fn play_batches<N: RunName, R: Wait, G: Gate>(
     rt: &R,
     worker: &mut Worker<N>,
     stage: &Stage<N>,
@@ -86,7 +86,7 @@ fn play_batches<N: Name, R: Wait, G: Gate>(
 }
 
 /// Does what a worker does, and then wakes the others, since no further batch is given.
-fn work<N: Name, R: Wait, G: Gate>(
+fn work<N: RunName, R: Wait, G: Gate>(
     rt: &R,
     worker: &mut Worker<N>,
     stage: &Stage<N>,
@@ -101,7 +101,7 @@ fn work<N: Name, R: Wait, G: Gate>(
 }
 
 /// All workers, each on a thread of its own.
-pub fn work_all<N: Name + Send + Sync, R: Threads + Wait + Sync, G: Gate + Sync>(
+pub fn work_all<N: RunName + Send + Sync, R: Threads + Wait + Sync, G: Gate + Sync>(
     rt: &R,
     workers: &mut [Worker<N>],
     stage: &Stage<N>,

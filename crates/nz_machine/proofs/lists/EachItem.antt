@@ -1,7 +1,10 @@
 -- What holds of each item of a list holds of each of its parts, and of lists that were put together.
 use Rattle.std.proofs.Common.{ℕ, zero, suc, Bool, replicate, List, [], ◌∷◌, ◌++◌, inl, inr}
 use Rattle.std.proofs.lemmas.Bool.{cases_Bool}
+use Rattle.std.proofs.lemmas.List.Elements.{All-from_recursion, recursion_from_All}
+use Rattle.std.proofs.lemmas.List.Sorted.{All-permutation}
 use Rattle.std.specs.List.{AllByRecursion, filter}
+use Rattle.std.specs.Prelude.{IsPermutation}
 use Rattle.indexmap.specs.IndexMap.{insert_entry}
 use Rattle.nz_base.specs.declared.key.Entry.{Entry}
 use Rattle.nz_base.specs.Key.{key_below}
@@ -26,6 +29,10 @@ all_filter P p (x ∷ xs) all =
       | inl kept ↦ rw kept (all.0, all_filter P p xs all.1)
       | inr gone ↦ rw gone (all_filter P p xs all.1)
     ]
+
+-- of each item of one order, of each of another
+pub all_permuted : {X : Type 0} (P : X → Type 0) (xs ys : List X) → IsPermutation xs ys → AllByRecursion P xs → AllByRecursion P ys
+all_permuted P xs ys same all = recursion_from_All P ys (All-permutation P xs ys same (All-from_recursion P xs all))
 
 pub all_imply : {X : Type 0} (P Q : X → Type 0) → ((x : X) → P x → Q x) → (xs : List X) → AllByRecursion P xs → AllByRecursion Q xs
 all_imply P Q h [] all = tt

@@ -15,8 +15,7 @@ use Rattle.nz_machine.specs.declared.event.Record.{Record}
 use Rattle.nz_machine.specs.declared.journal.Item.{Item}
 use Rattle.nz_machine.specs.runs.Schedule.{item, item_of, if_in, calls, actors_of, tick_item, Delivery, delivery_item}
 use Rattle.nz_machine.specs.runs.Schedule.{Posted, posted_by_run, arrivals, due, ScheduledTo, IsPlayable}
-use Rattle.nz_machine.proofs.lists.EachItem.{all_append, all_of_prefix, all_back, all_imply}
-use Rattle.nz_machine.proofs.runs.Scheduling.{all_permuted}
+use Rattle.nz_machine.proofs.lists.EachItem.{all_append, all_of_prefix, all_back, all_imply, all_permuted}
 use Rattle.nz_machine.proofs.runs.DueMayHappen.{IsCalled, IsFine, ItemIsFine, restart_tick, all_two, calls_called, due_is_fine}
 
 -- a restart has a greater nonce than this

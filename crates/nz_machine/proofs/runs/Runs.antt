@@ -75,6 +75,11 @@ all_has P [] x all h = absurd h
 all_has P (z ∷ xs) x all (inl e) = subst P e all.0
 all_has P (z ∷ xs) x all (inr h) = all_has P xs x all.1 h
 
+-- what holds of each member of a list holds of each item
+pub all_if_has : {X : Type 0} (P : X → Type 0) (xs : List X) → ((x : X) → Has xs x → P x) → AllByRecursion P xs
+all_if_has P [] h = tt
+all_if_has P (x ∷ xs) h = (h x (inl refl), all_if_has P xs (λ y k. h y (inr k)))
+
 -- ---- choices
 
 -- what is down does nothing

@@ -1,7 +1,7 @@
 -- What the loops of the function of this folder keep.
 use Rattle.std.specs.Prelude.{◌≡◌, ◌≤◌, true, take, length, vec_len, vec_capacity}
 use Rattle.nz_machine.specs.rules.State.{Group}
-use Rattle.nz_fabric.specs.Steps.{node_from, sends_from}
+use Rattle.nz_fabric.specs.threads.Steps.{node_from, sends_from}
 use Rattle.nz_actor.proofs.steps.step_all.Given as goal
 
 abbrev pub invariant-loop-event : goal.invariant-loop-event

@@ -1,6 +1,6 @@
 -- What the loops of the function of this folder keep.
 use Rattle.std.specs.Prelude.{◌-◌, length}
-use Rattle.nz_fabric.specs.Shared.{IsWhole}
+use Rattle.nz_fabric.specs.threads.Shared.{IsWhole}
 use Rattle.nz_run.proofs.threads.finish.Given as goal
 
 abbrev pub invariant-left : goal.invariant-left

@@ -1,5 +1,5 @@
 -- What the loops of the function of this folder keep.
-use Rattle.nz_fabric.specs.Shared.{IsWhole}
+use Rattle.nz_fabric.specs.threads.Shared.{IsWhole}
 use Rattle.nz_run.proofs.threads.finish_all.Given as goal
 
 abbrev pub invariant-ticks : goal.invariant-ticks

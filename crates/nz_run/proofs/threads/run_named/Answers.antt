@@ -31,4 +31,4 @@ pub returns-clause-replicas : goal.returns-clause-replicas
 returns-clause-replicas g c =
     let known = c.into_journal.ensures in
     subst (λ (s : Scenario). AreCores (group_of s) (run_in c.into_journal.result) c.in_ok-replicas.replicas.items) (sym known.scenario)
-    (subst (λ (J : List Record). AreCores (group_of g.N.Name.scenario) J c.in_ok-replicas.replicas.items) (sym known.records) c.in_ok-replicas.ensures)
+    (subst (λ (J : List Record). AreCores (group_of g.N.RunName.scenario) J c.in_ok-replicas.replicas.items) (sym known.records) c.in_ok-replicas.ensures)

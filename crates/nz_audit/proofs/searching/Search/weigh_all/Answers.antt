@@ -5,7 +5,8 @@ use Rattle.std.specs.List.{AllByRecursion}
 use Rattle.std.proofs.lemmas.Result.{on_ok_weaker}
 use Rattle.nz_audit.specs.declared.source.AcceptedAnswer.{AcceptedAnswer}
 use Rattle.nz_audit.specs.Prefixes.{all_traced, IsWithin, IsFound}
-use Rattle.nz_audit.proofs.Found.{all_permuted, found_permuted}
+use Rattle.nz_machine.proofs.lists.EachItem.{all_permuted}
+use Rattle.nz_audit.proofs.Found.{found_permuted}
 use Rattle.nz_audit.proofs.searching.Search.weigh_all.Goals as goal
 
 pub weigh_each-requires-clause-within : goal.weigh_each-requires-clause-within

@@ -2,8 +2,8 @@
 use Rattle.std.proofs.Common.{◌∙◌, List, sym, ap, subst}
 use Rattle.nz_machine.specs.runs.Schedule.{InOrder}
 use Rattle.nz_machine.specs.declared.event.Record.{Record}
-use Rattle.nz_fabric.specs.States.{IsKeptRun, records_of}
-use Rattle.nz_fabric.proofs.Held.{all_records, in_order_over}
+use Rattle.nz_fabric.specs.alone.States.{IsKeptRun, records_of}
+use Rattle.nz_fabric.proofs.one_thread.Held.{all_records, in_order_over}
 use Rattle.nz_fabric.proofs.alone.Alone.into_forgotten.Goals as goal
 
 pub returns-clause-records : goal.returns-clause-records

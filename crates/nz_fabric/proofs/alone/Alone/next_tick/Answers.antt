@@ -1,10 +1,10 @@
 -- What the function of this folder owes, proved.
 use Rattle.std.proofs.Common.{◌≡◌, ◌<◌, ◌≤◌, ◌+◌, ◌∙◌, false, length, sym, ap, subst, arith}
-use Rattle.nz_fabric.specs.declared.ticks.Ticks.{Ticks}
-use Rattle.nz_fabric.specs.Agendas.{Progress}
-use Rattle.nz_fabric.specs.States.{State, IsDone, IsHeld, after_tick, records_of, state_in}
-use Rattle.nz_fabric.proofs.Held.{long_records, over_some, over_whole, over_begun, next_in_order, held_marked, held_next, room_over}
-use Rattle.nz_fabric.proofs.Remembering.{here_is, in_memory_next, room_next}
+use Rattle.nz_fabric.specs.declared.schedule.ticks.Ticks.{Ticks}
+use Rattle.nz_fabric.specs.schedule.Agendas.{Progress}
+use Rattle.nz_fabric.specs.alone.States.{State, IsDone, IsHeld, after_tick, records_of, state_in}
+use Rattle.nz_fabric.proofs.one_thread.Held.{long_records, over_some, over_whole, over_begun, next_in_order, held_marked, held_next, room_over}
+use Rattle.nz_fabric.proofs.one_thread.Remembering.{here_is, in_memory_next, room_next}
 use Rattle.nz_fabric.proofs.alone.Alone.next_tick.Goals as goal
 
 pub invariant_of-self : goal.invariant_of-self
@@ -13,7 +13,7 @@ invariant_of-self c =
     let t = f.ticks in
     let inv = c.self.invariant.0 in
     let rest = c.self.invariant.1 in
-    let unmarked : t.marked ≡ false = ap (λ (f : State). f.marked) c.self.view_is ∙ c.requires.quiet.unmarked in
+    let unmarked : t.marked ≡ false = ap (λ (f : State). f.marked) c.self.view_is ∙ c.requires.none_open.unmarked in
     let here = here_is f.run f.records.records f.gone f.before f.keeps rest in
     let now = c.post_all.new.calendar in (
       held_marked t.scenario t.tick f.before (f.gone + f.records.room) f.run f.agenda.items f.agenda.next t.marked t.calendar now inv
@@ -28,7 +28,7 @@ invariant_of-self-in_err-items c =
     let room = f.gone + f.records.room in
     let inv = c.self.invariant.0 in
     let rest = c.self.invariant.1 in
-    let unmarked : t.marked ≡ false = ap (λ (f : State). f.marked) c.self.view_is ∙ c.requires.quiet.unmarked in
+    let unmarked : t.marked ≡ false = ap (λ (f : State). f.marked) c.self.view_is ∙ c.requires.none_open.unmarked in
     let here = here_is f.run f.records.records f.gone f.before f.keeps rest in
     let now = c.post_all.new.calendar in (
       subst (λ (p : Progress). IsHeld (state_in c.begin.new.self f.before f.run p.items p.next) f.before room f.run c.begin.new.self.calendar)
@@ -54,7 +54,7 @@ invariant_of-self-2 c =
     let done = subst IsDone (sym c.self.view_is) c.requires in
     let here = here_is f.run f.records.records f.gone f.before f.keeps rest in
     let begun =
-    over_begun t f.before f.run _ f.agenda.items f.agenda.next c.post_all.new.calendar c.begin.new.self is done.quiet.unmarked inv.is_posted here
+    over_begun t f.before f.run _ f.agenda.items f.agenda.next c.post_all.new.calendar c.begin.new.self is done.none_open.unmarked inv.is_posted here
     c.in_ok-post_all.ensures.ok c.in_ok-items.ensures.ok in
     let long : n ≡ length f.run = c.count-count.ensures ∙ ap (λ (s : State). length (records_of s)) (sym c.self.view_is) ∙ long_records f.before f.run in
     let within : f.before ≤ n = (let le = inv.within in omega (arith, le, long)) in
@@ -75,7 +75,7 @@ returns c =
     let inv = c.self.invariant.0 in
     let is = c.in_ok-items.items.items in
     let n = c.count-count.result in
-    let unmarked : t.marked ≡ false = ap (λ (f : State). f.marked) c.self.view_is ∙ c.requires.quiet.unmarked in
+    let unmarked : t.marked ≡ false = ap (λ (f : State). f.marked) c.self.view_is ∙ c.requires.none_open.unmarked in
     let here = here_is f.run f.records.records f.gone f.before f.keeps c.self.invariant.1 in
     let begun =
     over_begun t f.before f.run _ f.agenda.items f.agenda.next c.post_all.new.calendar c.begin.new.self is unmarked inv.is_posted here

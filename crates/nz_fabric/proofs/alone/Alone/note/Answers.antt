@@ -5,8 +5,8 @@ use Rattle.std.proofs.lemmas.Result.{on_ok_weaker}
 use Rattle.nz_machine.specs.runs.World.{World}
 use Rattle.nz_machine.specs.journals.Tellings.{AreNoted}
 use Rattle.nz_machine.specs.declared.event.Record.{Record}
-use Rattle.nz_fabric.specs.States.{State, records_of}
-use Rattle.nz_fabric.proofs.Held.{all_records}
+use Rattle.nz_fabric.specs.alone.States.{State, records_of}
+use Rattle.nz_fabric.proofs.one_thread.Held.{all_records}
 use Rattle.nz_fabric.proofs.alone.Alone.note.Goals as goal
 
 pub returns : goal.returns

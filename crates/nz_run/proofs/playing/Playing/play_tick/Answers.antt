@@ -1,6 +1,6 @@
 -- What the function of this folder owes, proved.
 use Rattle.std.proofs.Common.{◌∙◌, ap}
-use Rattle.nz_fabric.specs.States.{State}
+use Rattle.nz_fabric.specs.alone.States.{State}
 use Rattle.nz_run.proofs.TickByTick.{records_up_to}
 use Rattle.nz_run.proofs.playing.Playing.play_tick.Goals as goal
 
@@ -14,6 +14,6 @@ returns c =
       within = begun.1;
       tick = played.tick ∙ ap (λ (f : State). f.tick) begun.0;
       earlier = played.earlier ∙ ap (λ (f : State). f.finished) begun.0;
-      ticks_before = records_up_to c.args.self.now.alone c.kept.ensures;
-      tick_now = c.kept-2.ensures.here;
+      ticks_before = records_up_to c.args.self.now.alone c.show_invariant.ensures;
+      tick_now = c.show_invariant-2.ensures.here;
     }

@@ -1,7 +1,0 @@
--- What the loops of the function of this folder keep.
-use Rattle.std.proofs.Common.{◌≡◌, ◌++◌, map, take, drop}
-use Rattle.nz_fabric.specs.Posting.{put_off}
-use Rattle.nz_fabric.proofs.deliveries.held.Given as goal
-
-abbrev pub invariant-loop-place : goal.invariant-loop-place
-invariant-loop-place l = l.deliveries ≡ map (put_off l.by) (take l.place l.initial.deliveries) ++ drop l.place l.initial.deliveries

@@ -1,0 +1,2 @@
+-- The network of a run on one thread.
+pub mod States
