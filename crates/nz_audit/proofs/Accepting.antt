@@ -1,5 +1,5 @@
 -- An acceptance leads to its prefix, and the longest of them to the history.
-use Rattle.std.proofs.Common.{◌≡◌, ℕ, suc, ◌-◌, ◌<◌, List, [], ◌∷◌, ◌++◌, length, append_assoc, append-nil}
+use Rattle.std.proofs.Common.{◌≡◌, ℕ, suc, ◌+◌, ◌-◌, ◌<◌, List, [], ◌∷◌, ◌++◌, length, append_assoc, append-nil}
 use Rattle.std.proofs.Common.{zero, Option, Some, None, refl, sym, ap, subst, ◌∙◌, arith, ltb-true, inl}
 use Rattle.std.specs.Prelude.{nat_lt, slice_get}
 use Rattle.std.specs.List.{cons_option}
@@ -25,13 +25,15 @@ use Rattle.nz_machine.specs.declared.event.Parcel.{Parcel}
 use Rattle.nz_machine.specs.declared.event.Record.{Record}
 use Rattle.nz_machine.specs.declared.journal.Journal.{Journal}
 use Rattle.nz_machine.specs.journals.Journals.{group_in, run_in}
-use Rattle.nz_machine.specs.declared.client_progress.Acceptance.{Acceptance}
 use Rattle.nz_machine.specs.rules.State.{ClientData, Group}
 use Rattle.nz_machine.specs.rules.Step.{accepted_envelope, envelope_step, event_step, script_of}
 use Rattle.nz_machine.specs.runs.World.{state_after, Has, World, IsMember}
 use Rattle.nz_machine.specs.runs.Leading.{lead}
-use Rattle.nz_machine.specs.runs.Events.{ClientEvent, Accepted, id_at, read_in, accepted_in, accepted_by, sent_after, sent_by, client_events, events}
-use Rattle.nz_machine.specs.journals.ClientProgress.{acceptance_events, request_events}
+use Rattle.nz_machine.specs.declared.client_event.ClientEvent.{ClientEvent}
+use Rattle.nz_machine.specs.declared.client_event.ClientEvent.TheVariants.{Sent, Accepted}
+use Rattle.nz_machine.specs.runs.Events.{id_at, read_in, accepted_in, accepted_by, sent_after, sent_by, client_events, events}
+use Rattle.nz_machine.specs.journals.EventNotes.{all_at}
+use Rattle.nz_machine.specs.declared.client_event.EventAt.{EventAt}
 use Rattle.nz_machine.specs.runs.History.{ReplySource, source, log_at, cut_after, source_of_sender, accepted_source}
 use Rattle.nz_machine.specs.runs.History.{prefix_at_source, accepted_prefix, entries_or, prefix_in, longer, history}
 use Rattle.nz_machine.proofs.lists.EachItem.{all_append}
@@ -45,11 +47,11 @@ use Rattle.nz_laws_commit.proofs.Whole.{after_newer}
 use Rattle.nz_audit.specs.declared.source.Source.{Source}
 use Rattle.nz_audit.specs.Sources.{numbers_of, in_numbers, about_message, about, source_sent, stands_for, delivered_source}
 use Rattle.nz_replay.specs.Runs.{run_up_to}
-use Rattle.nz_audit.specs.Prefixes.{prefix_for, requests_sent, accepted_at, with_accepted, with_source, source_by, traced, all_traced}
+use Rattle.nz_audit.specs.Prefixes.{prefix_for, requests_sent, with_accepted, with_source, source_by, traced, all_traced}
 use Rattle.nz_audit.specs.Leading.{RepliesIn}
 use Rattle.nz_audit.specs.Prefixes.{Brings, IsAccepted, IsWithin, GiveHistory, AreAccepted}
 use Rattle.nz_audit.specs.declared.source.AcceptedAt.{AcceptedAt}
-use Rattle.nz_audit.specs.declared.source.AcceptedAnswer.{AcceptedAnswer}
+use Rattle.nz_audit.specs.declared.source.Traced.{Traced}
 use Rattle.nz_audit.proofs.Runs.{run_named, run_within, run_length}
 use Rattle.nz_audit.proofs.Longest.{longer_stays, longest_more, order_later, order_more}
 use Rattle.nz_audit.proofs.Sent.{prefix_few}
@@ -60,12 +62,12 @@ use Rattle.nz_audit.proofs.LedPrefixes.{prefix_led, prefix_led_first}
 -- ---- an accepted answer with its source
 
 -- What is noted gives the prefix: nothing where there is none.
-record GivesOne (journal : Journal) (place : ℕ) (P : List Entry) (a : AcceptedAnswer) : Type 0 where
+record GivesOne (journal : Journal) (place : ℕ) (P : List Entry) (a : Traced) : Type 0 where
   pub prefix : P ≡ prefix_for journal a
   pub within : IsWithin journal a
-  pub at : a.place ≡ place
+  pub at : a.accepted.place ≡ place
 
-abbrev Gives : Journal → ℕ → List Entry → Option AcceptedAnswer → Type 0
+abbrev Gives : Journal → ℕ → List Entry → Option Traced → Type 0
 Gives journal place P None = P ≡ []
 Gives journal place P (Some a) = GivesOne journal place P a
 
@@ -119,9 +121,9 @@ from_source journal J x p (Some at) part w count e led =
 
 -- ---- which request an accepted answer is to
 
--- the first event told is an acceptance
+-- the first event is an acceptance
 abbrev Begins : List ClientEvent → Id → Type 0
-Begins (Accepted id answer path ∷ told) own = id ≡ own
+Begins (Accepted id answer path ∷ rest) own = id ≡ own
 Begins _ own = ⊥
 
 sent_after_begins : (c : ℕ) (script : List Request) (num more : ℕ) (id : Id) → Begins (sent_after c script num more) id → ⊥
@@ -145,17 +147,17 @@ answer_begins c script s t (Answer b) id =
     (λ lt h. record { risen = ltb-true s.accepted t.accepted lt; body = b; message = refl; own = h }) (λ _ h. absurd (sent_begins c script s t id h))
 answer_begins c script s t _ id = λ h. absurd (sent_begins c script s t id h)
 
-record IsTold (p : Parcel) (id : Id) : Type 0 where
+record IsAnswerAbout (p : Parcel) (id : Id) : Type 0 where
   proxy : ℕ
   from : p.from ≡ Proxy proxy
   about : about p ≡ Some id
 
-client_told : (g : Group) (c : ℕ) (r : Record) (J : List Record) (p : Parcel) (o : Option Envelope) (id : Id)
+client_answered : (g : Group) (c : ℕ) (r : Record) (J : List Record) (p : Parcel) (o : Option Envelope) (id : Id)
     → r.actor ≡ Client c → r.event ≡ Deliver p → accepted_envelope g.f (Client c) p ≡ o
     → Begins (accepted_by c (state_after g (Client c) J) (state_after g (Client c) (r ∷ J)) o
-    ++ sent_by c (script_of g c) (state_after g (Client c) J) (state_after g (Client c) (r ∷ J))) id → IsTold p id
-client_told g c r J p None id by is heard h = absurd (sent_begins c (script_of g c) (state_after g (Client c) J) (state_after g (Client c) (r ∷ J)) id h)
-client_told g c r J p (Some e) id by is heard h =
+    ++ sent_by c (script_of g c) (state_after g (Client c) J) (state_after g (Client c) (r ∷ J))) id → IsAnswerAbout p id
+client_answered g c r J p None id by is heard h = absurd (sent_begins c (script_of g c) (state_after g (Client c) J) (state_after g (Client c) (r ∷ J)) id h)
+client_answered g c r J p (Some e) id by is heard h =
     let s = state_after g (Client c) J in
     let t = state_after g (Client c) (r ∷ J) in
     let b = answer_begins c (script_of g c) s t e.message id h in
@@ -172,14 +174,14 @@ client_told g c r J p (Some e) id by is heard h =
           ∙ ap (about_message (Proxy a.proxy) (Client c)) b.message ∙ ap Some b.own;
     }
 
-told_by_actor : (g : Group) (a : Actor) (r : Record) (J : List Record) (p : Parcel) (id : Id) → r.actor ≡ a
-    → r.event ≡ Deliver p → Begins (client_events g a r J) id → IsTold p id
-told_by_actor g (Client c) r J p id by is h =
-    client_told g c r J p (accepted_envelope g.f (Client c) p) id by is refl
+answered_by_actor : (g : Group) (a : Actor) (r : Record) (J : List Record) (p : Parcel) (id : Id) → r.actor ≡ a
+    → r.event ≡ Deliver p → Begins (client_events g a r J) id → IsAnswerAbout p id
+answered_by_actor g (Client c) r J p id by is h =
+    client_answered g c r J p (accepted_envelope g.f (Client c) p) id by is refl
     (subst (λ (x : Event). Begins (accepted_by c (state_after g (Client c) J) (state_after g (Client c) (r ∷ J))
     (read_in g (Client c) x) ++ sent_by c (script_of g c) (state_after g (Client c) J) (state_after g (Client c) (r ∷ J))) id) is h)
-told_by_actor g (Replica m) r J p id by is h = absurd h
-told_by_actor g (Proxy q) r J p id by is h = absurd h
+answered_by_actor g (Replica m) r J p id by is h = absurd h
+answered_by_actor g (Proxy q) r J p id by is h = absurd h
 
 -- ---- what a record adds
 
@@ -189,26 +191,75 @@ answer_stands_for g id p q None from = refl
 answer_stands_for g id p q (Some K) from =
     ap (λ (a : Actor). source_sent g id a K) from ∙ sym (ap (λ (a : Actor). in_numbers (source_of_sender g id a K)) from)
 
-source_is_accepted : (g : Group) (J : List Record) (p : Parcel) (id : Id) → IsTold p id
+source_is_accepted : (g : Group) (J : List Record) (p : Parcel) (id : Id) → IsAnswerAbout p id
     → delivered_source g J (Deliver p) ≡ in_numbers (accepted_source g id p J)
-source_is_accepted g J p id told =
-    ap (λ (o : Option Id). option_flatten (stands_for g p (source p J) o)) told.about ∙ answer_stands_for g id p told.proxy (source p J) told.from
+source_is_accepted g J p id answer =
+    ap (λ (o : Option Id). option_flatten (stands_for g p (source p J) o)) answer.about ∙ answer_stands_for g id p answer.proxy (source p J) answer.from
 
-told_first : (event : ClientEvent) (rest told : List ClientEvent) → event ∷ rest ≡ told → Has told event
-told_first event rest told is = subst (λ (l : List ClientEvent). Has l event) is (inl refl)
+first_has_it : (event : ClientEvent) (rest E : List ClientEvent) → event ∷ rest ≡ E → Has E event
+first_has_it event rest E is = subst (λ (l : List ClientEvent). Has l event) is (inl refl)
 
-no_prefix : (g : Group) (sent : List Id) (e : Event) (J : List Record) → prefix_in g (request_events g sent) e J ≡ []
-no_prefix g [] e J = refl
-no_prefix g (id ∷ ids) e J = refl
+-- all of them are sendings
+abbrev pub AreSendings : List ClientEvent → Type 0
+AreSendings [] = Unit {0}
+AreSendings (Sent id command ∷ E) = AreSendings E
+AreSendings (Accepted id answer path ∷ E) = ⊥
+
+-- only the first of them may be an acceptance
+abbrev pub AreOfRecord : List ClientEvent → Type 0
+AreOfRecord (Accepted id answer path ∷ E) = AreSendings E
+AreOfRecord E = AreSendings E
+
+after_are_sendings : (c : ℕ) (script : List Request) (num more : ℕ) → AreSendings (sent_after c script num more)
+after_are_sendings c script num zero = tt
+after_are_sendings c script num (suc more) = after_are_sendings c script (num + 1) more
+
+as_of_record : (E : List ClientEvent) → AreSendings E → AreOfRecord E
+as_of_record [] h = tt
+as_of_record (Sent id command ∷ E) h = h
+as_of_record (Accepted id answer path ∷ E) h = absurd h
+
+-- the events of a record are such
+pub events_of_record : (g : Group) (a : Actor) (r : Record) (J : List Record) → AreOfRecord (client_events g a r J)
+events_of_record g (Replica m) r J = tt
+events_of_record g (Proxy p) r J = tt
+events_of_record g (Client c) r J = by_read (read_in g (Client c) r.event)
+  where
+    s : ClientData
+    s = state_after g (Client c) J
+
+    t : ClientData
+    t = state_after g (Client c) (r ∷ J)
+
+    sent : List ClientEvent
+    sent = sent_by c (script_of g c) s t
+
+    sendings : AreSendings sent
+    sendings = after_are_sendings c (script_of g c) s.sent (t.sent - s.sent)
+
+    by_message : (m : Message) → AreOfRecord (accepted_in c s t m ++ sent)
+    by_message (Answer b) =
+        cond_both (nat_lt s.accepted t.accepted) (Accepted (id_at c b.num) b.answer b.path ∷ []) [] (λ (l : List ClientEvent). AreOfRecord (l ++ sent))
+        (λ _. sendings) (λ _. as_of_record sent sendings)
+    by_message _ = as_of_record sent sendings
+
+    by_read : (o : Option Envelope) → AreOfRecord (accepted_by c s t o ++ sent)
+    by_read None = as_of_record sent sendings
+    by_read (Some e) = by_message e.message
+
+no_prefix : (g : Group) (E : List ClientEvent) (e : Event) (J : List Record) → AreSendings E → prefix_in g E e J ≡ []
+no_prefix g [] e J h = refl
+no_prefix g (Sent id command ∷ E) e J h = refl
+no_prefix g (Accepted id answer path ∷ E) e J h = absurd h
 
 -- the source of an answer that is accepted
 source_led : (journal : Journal) (r : Record) (J : List Record) (id : Id) (answer : AnswerModel) (path : Path) (rest : List ClientEvent) (p : Parcel)
     → World (group_in journal) (run_in journal) → World (group_in journal) (r ∷ J) → At (run_in journal) J → r.event ≡ Deliver p
     → Accepted id answer path ∷ rest ≡ client_events (group_in journal) r.actor r J
     → (at : ReplySource) → accepted_source (group_in journal) id p J ≡ Some at → IsLed journal id at.sender at.run
-source_led journal r J id answer path rest p world w moment is told at from =
+source_led journal r J id answer path rest p world w moment is adds at from =
     let g = group_in journal in
-    let t = gives g r J id answer path w (told_accepted g r J id answer path (told_first (Accepted id answer path) rest _ told)) in
+    let t = gives g r J id answer path w (told_accepted g r J id answer path (first_has_it (Accepted id answer path) rest _ adds)) in
     let parcel : p ≡ t.parcel = same_parcel p t.parcel (sym is ∙ t.event) in
     let same : t.source ≡ at = same_Some t.source at (sym t.leads ∙ ap (λ (q : Parcel). accepted_source g id q J) (sym parcel) ∙ from) in
     subst (λ (s : ReplySource). IsLed journal id s.sender s.run) same (λ v replies. prefix_led g (run_in journal) r J id answer v world moment t replies)
@@ -218,10 +269,10 @@ prefix_first : (journal : Journal) (r : Record) (J : List Record) (id : Id) (ans
     → World (group_in journal) (run_in journal) → World (group_in journal) (r ∷ J) → At (run_in journal) J
     → Accepted id answer path ∷ rest ≡ client_events (group_in journal) r.actor r J → AreUpWithin 0 (group_in journal) (run_in journal)
     → prefix_in (group_in journal) (Accepted id answer path ∷ rest) r.event J ≡ cut_after id (lead (group_in journal) 0 (run_in journal))
-prefix_first journal r J id answer path rest world w moment told up =
+prefix_first journal r J id answer path rest world w moment adds up =
     let g = group_in journal in
-    let t = gives g r J id answer path w (told_accepted g r J id answer path (told_first (Accepted id answer path) rest _ told)) in
-    ap (λ (l : List ClientEvent). prefix_in g l r.event J) told ∙ t.is ∙ prefix_led_first g (run_in journal) r J id answer world moment up t
+    let t = gives g r J id answer path w (told_accepted g r J id answer path (first_has_it (Accepted id answer path) rest _ adds)) in
+    ap (λ (l : List ClientEvent). prefix_in g l r.event J) adds ∙ t.is ∙ prefix_led_first g (run_in journal) r J id answer world moment up t
 
 accepts_at : (journal : Journal) (r : Record) (J : List Record) (x : AcceptedAt) (answer : AnswerModel) (path : Path) (rest : List ClientEvent)
     (e : Event) → World (group_in journal) (run_in journal) → World (group_in journal) (r ∷ J) → IsPart journal J → r.event ≡ e
@@ -229,28 +280,28 @@ accepts_at : (journal : Journal) (r : Record) (J : List Record) (x : AcceptedAt)
     → x.sent ≡ requests_sent (events (group_in journal) J)
     → Gives journal x.place (prefix_in (group_in journal) (Accepted x.id answer path ∷ rest) e J)
     (with_source (delivered_source (group_in journal) J e) x)
-accepts_at journal r J x answer path rest (Deliver p) world w part is told count =
+accepts_at journal r J x answer path rest (Deliver p) world w part is adds count =
     let g = group_in journal in
-    let begins = told_by_actor g r.actor r J p x.id refl is (subst (λ (l : List ClientEvent). Begins l x.id) told refl) in
+    let begins = answered_by_actor g r.actor r J p x.id refl is (subst (λ (l : List ClientEvent). Begins l x.id) adds refl) in
     subst (λ (s : Option Source). Gives journal x.place (entries_or (accepted_prefix g x.id p J)) (with_source s x))
     (sym (source_is_accepted g J p x.id begins)) (from_source journal J x p (accepted_source g x.id p J) part w.1 count refl
-    (source_led journal r J x.id answer path rest p world w (part_at journal J part) is told))
-accepts_at journal r J x answer path rest (Cut kept p) world w part is told count = refl
-accepts_at journal r J x answer path rest (Tick clock) world w part is told count = refl
-accepts_at journal r J x answer path rest Alarm world w part is told count = refl
-accepts_at journal r J x answer path rest Crash world w part is told count = refl
-accepts_at journal r J x answer path rest (Restart nonce) world w part is told count = refl
+    (source_led journal r J x.id answer path rest p world w (part_at journal J part) is adds))
+accepts_at journal r J x answer path rest (Cut kept p) world w part is adds count = refl
+accepts_at journal r J x answer path rest (Tick clock) world w part is adds count = refl
+accepts_at journal r J x answer path rest Alarm world w part is adds count = refl
+accepts_at journal r J x answer path rest Crash world w part is adds count = refl
+accepts_at journal r J x answer path rest (Restart nonce) world w part is adds count = refl
 
 -- what its record delivers is about its request
 brings_at : (g : Group) (r : Record) (J : List Record) (id : Id) (answer : AnswerModel) (path : Path) (rest : List ClientEvent) (e : Event)
     → r.event ≡ e → Accepted id answer path ∷ rest ≡ client_events g r.actor r J → Brings id e
-brings_at g r J id answer path rest (Deliver p) is told =
-    (told_by_actor g r.actor r J p id refl is (subst (λ (l : List ClientEvent). Begins l id) told refl)).about
-brings_at g r J id answer path rest (Cut kept p) is told = tt
-brings_at g r J id answer path rest (Tick clock) is told = tt
-brings_at g r J id answer path rest Alarm is told = tt
-brings_at g r J id answer path rest Crash is told = tt
-brings_at g r J id answer path rest (Restart nonce) is told = tt
+brings_at g r J id answer path rest (Deliver p) is adds =
+    (answered_by_actor g r.actor r J p id refl is (subst (λ (l : List ClientEvent). Begins l id) adds refl)).about
+brings_at g r J id answer path rest (Cut kept p) is adds = tt
+brings_at g r J id answer path rest (Tick clock) is adds = tt
+brings_at g r J id answer path rest Alarm is adds = tt
+brings_at g r J id answer path rest Crash is adds = tt
+brings_at g r J id answer path rest (Restart nonce) is adds = tt
 
 -- ---- one record more
 
@@ -259,7 +310,7 @@ history_stays : (g : Group) (r : Record) (J : List Record) (P : List Entry) → 
     → history g (r ∷ J) ≡ history g J
 history_stays g r J P then none = then ∙ ap (longer (history g J)) none ∙ longer_stays (history g J) [] (omega arith)
 
-history_more : (journal : Journal) (r : Record) (J : List Record) (P : List Entry) (accepted : List AcceptedAnswer) (o : Option AcceptedAnswer)
+history_more : (journal : Journal) (r : Record) (J : List Record) (P : List Entry) (accepted : List Traced) (o : Option Traced)
     → history (group_in journal) (r ∷ J) ≡ longer (history (group_in journal) J) P → GiveHistory journal J accepted → Gives journal (length J) P o
     → GiveHistory journal (r ∷ J) (with_accepted accepted o)
 history_more journal r J P accepted None then h none = record {
@@ -280,7 +331,7 @@ pub traced_more : (journal : Journal) (answers : List AcceptedAt) (a : AcceptedA
     → all_traced journal (answers ++ a ∷ []) ≡ with_accepted (all_traced journal answers) (traced journal a)
 traced_more journal answers a = filter_map-append (traced journal) answers (a ∷ []) ∙ last (traced journal a)
   where
-    last : (o : Option AcceptedAnswer) → all_traced journal answers ++ cons_option o [] ≡ with_accepted (all_traced journal answers) o
+    last : (o : Option Traced) → all_traced journal answers ++ cons_option o [] ≡ with_accepted (all_traced journal answers) o
     last None = append-nil (all_traced journal answers)
     last (Some x) = refl
 
@@ -294,47 +345,45 @@ pub record IsAt (journal : Journal) (place : ℕ) (r : Record) : Type 0 where
   pub whole : run_in journal ≡ newer ++ (r ∷ run_up_to journal place)
 
 -- where it accepts nothing
-pub none_accepted : (journal : Journal) (r : Record) (J : List Record) (ids : List Id) (answers : List AcceptedAt)
-    → request_events (group_in journal) ids ≡ client_events (group_in journal) r.actor r J → AreAccepted journal J answers
-    → AreAccepted journal (r ∷ J) answers
-none_accepted journal r J ids answers told h =
+none_accepted : (journal : Journal) (r : Record) (J : List Record) (E : List ClientEvent) (answers : List AcceptedAt) → AreSendings E
+    → E ≡ client_events (group_in journal) r.actor r J → AreAccepted journal J answers → AreAccepted journal (r ∷ J) answers
+none_accepted journal r J E answers sendings is h =
     let g = group_in journal in
-    let P = prefix_in g (request_events g ids) r.event J in
-    let none = no_prefix g ids r.event J in
-    let then : history g (r ∷ J) ≡ longer (history g J) P = ap (λ (l : List ClientEvent). longer (history g J) (prefix_in g l r.event J)) (sym told) in
+    let P = prefix_in g E r.event J in
+    let none = no_prefix g E r.event J sendings in
+    let then : history g (r ∷ J) ≡ longer (history g J) P = ap (λ (l : List ClientEvent). longer (history g J) (prefix_in g l r.event J)) (sym is) in
     record {
       each = h.each;
       history = history_more journal r J P (all_traced journal answers) None then h.history none;
       one_log = λ up. history_stays g r J P then none ∙ h.one_log up;
     }
 
-one_accepted : (journal : Journal) (place : ℕ) (r : Record) (a : Acceptance) (ids : List Id) (answers : List AcceptedAt) (sent : ℕ)
-    → IsAt journal place r
-    → Accepted a.id a.answer a.path ∷ request_events (group_in journal) ids ≡ client_events (group_in journal) r.actor r (run_up_to journal place)
+one_accepted : (journal : Journal) (place : ℕ) (r : Record) (id : Id) (answer : AnswerModel) (path : Path) (rest : List ClientEvent)
+    (answers : List AcceptedAt) (sent : ℕ) → IsAt journal place r
+    → Accepted id answer path ∷ rest ≡ client_events (group_in journal) r.actor r (run_up_to journal place)
     → sent ≡ requests_sent (events (group_in journal) (run_up_to journal place)) → AreAccepted journal (run_up_to journal place) answers
-    → AreAccepted journal (r ∷ run_up_to journal place) (answers ++ record { place = place; id = a.id; sent = sent } ∷ [])
-one_accepted journal place r a ids answers sent is told count h =
+    → AreAccepted journal (r ∷ run_up_to journal place) (answers ++ record { place = place; id = id; sent = sent } ∷ [])
+one_accepted journal place r id answer path rest answers sent is adds count h =
     let g = group_in journal in
     let J = run_up_to journal place in
-    let x : AcceptedAt = record { place = place; id = a.id; sent = sent } in
-    let rest = request_events g ids in
+    let x : AcceptedAt = record { place = place; id = id; sent = sent } in
     let part : IsPart journal J = record { newer = is.newer ++ r ∷ []; whole = is.whole ∙ sym (append_assoc is.newer (r ∷ []) J) } in
     let there = is.there in
     let long : length J ≡ place = run_length journal place (omega (arith, there)) in
     let own : traced journal x ≡ with_source (delivered_source g J r.event) x =
     ap (λ (o : Option Record). with_source (source_by journal place o) x) is.at in
-    let P = prefix_in g (Accepted a.id a.answer a.path ∷ rest) r.event J in
-    let then : history g (r ∷ J) ≡ longer (history g J) P = ap (λ (l : List ClientEvent). longer (history g J) (prefix_in g l r.event J)) (sym told) in
+    let P = prefix_in g (Accepted id answer path ∷ rest) r.event J in
+    let then : history g (r ∷ J) ≡ longer (history g J) P = ap (λ (l : List ClientEvent). longer (history g J) (prefix_in g l r.event J)) (sym adds) in
     let gives : Gives journal (length J) P (traced journal x) =
     subst (λ (n : ℕ). Gives journal n P (traced journal x)) (sym long)
     (subst (Gives journal place P) (sym own)
-    (accepts_at journal r J x a.answer a.path rest r.event is.run is.world part refl told count)) in
-    let brings = brings_at g r J a.id a.answer a.path rest r.event refl told in
+    (accepts_at journal r J x answer path rest r.event is.run is.world part refl adds count)) in
+    let brings = brings_at g r J id answer path rest r.event refl adds in
     record {
       each = all_append (IsAccepted journal) answers (x ∷ []) h.each (
         record {
           place = is.there;
-          brings = λ s at. subst (λ (y : Record). Brings a.id y.event) (same_Some r s (sym is.at ∙ at)) brings;
+          brings = λ s at. subst (λ (y : Record). Brings id y.event) (same_Some r s (sym is.at ∙ at)) brings;
         },
         tt,
       );
@@ -343,13 +392,49 @@ one_accepted journal place r a ids answers sent is told count h =
       one_log = λ up.
           let log = lead g 0 (run_in journal) in
           longest_more (λ (y : AcceptedAt). cut_after y.id log) answers x (history g J) (history g (r ∷ J)) P then (h.one_log up)
-          (prefix_first journal r J a.id a.answer a.path rest is.run is.world (part_at journal J part) told up);
+          (prefix_first journal r J id answer path rest is.run is.world (part_at journal J part) adds up);
     }
 
-pub accepted_then : (journal : Journal) (place : ℕ) (r : Record) (accepted : Option Acceptance) (ids : List Id) (answers : List AcceptedAt) (sent : ℕ)
-    → IsAt journal place r
-    → acceptance_events accepted ++ request_events (group_in journal) ids ≡ client_events (group_in journal) r.actor r (run_up_to journal place)
-    → sent ≡ requests_sent (events (group_in journal) (run_up_to journal place)) → AreAccepted journal (run_up_to journal place) answers
-    → AreAccepted journal (r ∷ run_up_to journal place) (with_accepted answers (accepted_at accepted place sent))
-accepted_then journal place r None ids answers sent is told count h = none_accepted journal r (run_up_to journal place) ids answers told h
-accepted_then journal place r (Some a) ids answers sent is told count h = one_accepted journal place r a ids answers sent is told count h
+-- ---- the events of one record more
+
+-- some accepted answers, and how many requests were sent
+pub record Acceptances : Type 0 where
+  pub answers : List AcceptedAt
+  pub sent : ℕ
+
+abbrev pub no_acceptances : Acceptances
+no_acceptances = record { answers = []; sent = 0 }
+
+-- one event more, in the record of this place
+abbrev pub with_event : Acceptances → ℕ → ClientEvent → Acceptances
+with_event n place (Sent id command) = record { answers = n.answers; sent = n.sent + 1 }
+with_event n place (Accepted id answer path) = record { answers = n.answers ++ record { place = place; id = id; sent = n.sent } ∷ []; sent = n.sent }
+
+-- the same of several in turn
+abbrev pub after_events : Acceptances → List EventAt → Acceptances
+after_events n [] = n
+after_events n (x ∷ E) = after_events (with_event n x.place x.event) E
+
+pub events_count : (n : Acceptances) (place tick : ℕ) (E : List ClientEvent) → (after_events n (all_at place tick E)).sent ≡ n.sent + requests_sent E
+events_count n place tick [] = omega arith
+events_count n place tick (Sent id command ∷ E) = let rest = events_count (with_event n place (Sent id command)) place tick E in omega (arith, rest)
+events_count n place tick (Accepted id answer path ∷ E) = events_count (with_event n place (Accepted id answer path)) place tick E
+
+sendings_keep : (n : Acceptances) (place tick : ℕ) (E : List ClientEvent) → AreSendings E → (after_events n (all_at place tick E)).answers ≡ n.answers
+sendings_keep n place tick [] h = refl
+sendings_keep n place tick (Sent id command ∷ E) h = sendings_keep (with_event n place (Sent id command)) place tick E h
+sendings_keep n place tick (Accepted id answer path ∷ E) h = absurd h
+
+pub accepted_then : (journal : Journal) (place tick : ℕ) (r : Record) (E : List ClientEvent) (n : Acceptances) → IsAt journal place r → AreOfRecord E
+    → E ≡ client_events (group_in journal) r.actor r (run_up_to journal place)
+    → n.sent ≡ requests_sent (events (group_in journal) (run_up_to journal place)) → AreAccepted journal (run_up_to journal place) n.answers
+    → AreAccepted journal (r ∷ run_up_to journal place) (after_events n (all_at place tick E)).answers
+accepted_then journal place tick r [] n is of_record same count h = none_accepted journal r (run_up_to journal place) [] n.answers tt same h
+accepted_then journal place tick r (Sent id command ∷ E) n is sendings same count h =
+    let J = run_up_to journal place in
+    subst (AreAccepted journal (r ∷ J)) (sym (sendings_keep n place tick (Sent id command ∷ E) sendings))
+    (none_accepted journal r J (Sent id command ∷ E) n.answers sendings same h)
+accepted_then journal place tick r (Accepted id answer path ∷ E) n is sendings same count h =
+    let J = run_up_to journal place in
+    subst (AreAccepted journal (r ∷ J)) (sym (sendings_keep (with_event n place (Accepted id answer path)) place tick E sendings))
+    (one_accepted journal place r id answer path E n.answers n.sent is same count h)

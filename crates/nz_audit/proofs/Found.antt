@@ -22,7 +22,7 @@ use Rattle.nz_machine.proofs.lists.EachItem.{all_imply}
 use Rattle.nz_machine.proofs.runs.Runs.{all_has, has_left, has_right, has_split}
 use Rattle.nz_machine.proofs.journals.JournalPrefixes.{world_with}
 use Rattle.nz_audit.specs.declared.source.AcceptedAt.{AcceptedAt}
-use Rattle.nz_audit.specs.declared.source.AcceptedAnswer.{AcceptedAnswer}
+use Rattle.nz_audit.specs.declared.source.Traced.{Traced}
 use Rattle.nz_audit.specs.declared.source.Counted.{Counted}
 use Rattle.nz_audit.specs.declared.searching.Search.{Search}
 use Rattle.nz_audit.specs.declared.replaying.Replayed.{Replayed}
@@ -89,13 +89,13 @@ cut_is log (Some place) = cut_so (suc place) log
     cut_so (suc n) (e ∷ es) = ap (λ (l : List Entry). e ∷ l) (cut_so n es)
 
 -- the log has the prefix that is cut from it
-pub log_replayed : (journal : Journal) (a : AcceptedAnswer) (at : Replayed) (log : Log) → at.source ≡ a.source
+pub log_replayed : (journal : Journal) (a : Traced) (at : Replayed) (log : Log) → at.source ≡ a.source
     → IsReplayed journal at → log ≡ at.core.model.state.log
-    → cut_after a.id log.entries ≡ prefix_for journal a
+    → cut_after a.accepted.id log.entries ≡ prefix_for journal a
 log_replayed journal a at log same is read =
     let g = group_in journal in
-    ap (λ (l : Log). cut_after a.id l.entries) read ∙ ap (λ (t : ReplicaData). cut_after a.id t.log.entries) is.state
-    ∙ (λ i. cut_after a.id (log_at g (Replica ((same i).replica)) (run_up_to journal ((same i).records))))
+    ap (λ (l : Log). cut_after a.accepted.id l.entries) read ∙ ap (λ (t : ReplicaData). cut_after a.accepted.id t.log.entries) is.state
+    ∙ (λ i. cut_after a.accepted.id (log_at g (Replica ((same i).replica)) (run_up_to journal ((same i).records))))
 
 pub log_taken : (id : Id) (log P : List Entry) (n : ℕ) → cut_after id log ≡ P → n ≡ length P → take n log ≡ P
 log_taken id log P n is count =
@@ -104,9 +104,9 @@ log_taken id log P n is count =
 pub within_log : (n : ℕ) (log P : List Entry) → n ≡ length P → take n log ≡ P → n ≤ length log
 within_log n log P count is = let a : n ≡ length (take n log) = count ∙ ap length (sym is) in let b = length-take n log in omega (arith, a, b)
 
-pub nothing_accepted : (journal : Journal) (J : List Record) (accepted : List AcceptedAnswer) → GiveHistory journal J accepted → accepted ≡ []
+pub nothing_accepted : (journal : Journal) (J : List Record) (accepted : List Traced) → GiveHistory journal J accepted → accepted ≡ []
     → history (group_in journal) J ≡ []
-nothing_accepted journal J accepted h none = h.longest ∙ ap (λ (xs : List AcceptedAnswer). longest_from [] (map (prefix_for journal) xs)) none
+nothing_accepted journal J accepted h none = h.longest ∙ ap (λ (xs : List Traced). longest_from [] (map (prefix_for journal) xs)) none
 
 -- ---- the search
 
@@ -126,15 +126,15 @@ all_of P [] h = tt
 all_of P (x ∷ xs) h = (h x (inl refl), all_of P xs (λ y k. h y (inr k)))
 
 -- the order does not matter
-pub found_among : (journal : Journal) (xs ys : List AcceptedAnswer) (s : Search) → ((a : AcceptedAnswer) → Has xs a → Has ys a)
-    → ((a : AcceptedAnswer) → Has ys a → Has xs a) → IsFound journal xs s → IsFound journal ys s
+pub found_among : (journal : Journal) (xs ys : List Traced) (s : Search) → ((a : Traced) → Has xs a → Has ys a)
+    → ((a : Traced) → Has ys a → Has xs a) → IsFound journal xs s → IsFound journal ys s
 found_among journal xs ys s there back h = record { replays = h.replays; best = by_best s.best h.best }
   where
     by_best : (o : Option Counted) → IsBestIfAny journal xs o → IsBestIfAny journal ys o
-    by_best None none = none_without ys (λ a k. subst (λ (l : List AcceptedAnswer). Has l a) none (back a k))
+    by_best None none = none_without ys (λ a k. subst (λ (l : List Traced). Has l a) none (back a k))
     by_best (Some b) best = record {
       counted = best.counted;
-      among = there b.accepted best.among;
+      among = there b.answer best.among;
       beats = all_of (IsNoLonger journal b) ys (λ a k. all_has (IsNoLonger journal b) xs a best.beats (back a k));
     }
 
@@ -142,12 +142,12 @@ has_permuted : {X : Type 0} (xs ys : List X) (x : X) → IsPermutation xs ys →
 has_permuted xs ys x same h = all_has (Has ys) xs x (all_permuted (Has ys) ys xs (IsPermutation-sym xs ys same) (has_itself ys)) h
 
 -- what follows may be in any order
-pub found_permuted : (journal : Journal) (done xs ys : List AcceptedAnswer) (s : Search) → IsPermutation xs ys → IsFound journal (done ++ ys) s
+pub found_permuted : (journal : Journal) (done xs ys : List Traced) (s : Search) → IsPermutation xs ys → IsFound journal (done ++ ys) s
     → IsFound journal (done ++ xs) s
 found_permuted journal done xs ys s same =
     found_among journal (done ++ ys) (done ++ xs) s (moved xs ys (IsPermutation-sym xs ys same)) (moved ys xs same)
   where
-    moved : (us vs : List AcceptedAnswer) → IsPermutation vs us → (a : AcceptedAnswer) → Has (done ++ vs) a → Has (done ++ us) a
+    moved : (us vs : List Traced) → IsPermutation vs us → (a : Traced) → Has (done ++ vs) a → Has (done ++ us) a
     moved us vs back a h = elim (has_split done vs a h) [
       | inl earlier ↦ has_left done us a earlier
       | inr own ↦ has_right done us a (has_permuted vs us a back own)

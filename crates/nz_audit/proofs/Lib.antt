@@ -17,6 +17,6 @@ pub mod Accepting
 pub mod Found
 pub mod FirstView
 pub mod Rounds
-pub mod Told
+pub mod RunAccepted
 pub mod Silences
 pub mod Traces

@@ -12,7 +12,7 @@ use Rattle.nz_machine.proofs.lists.EachItem.{all_filter}
 use Rattle.nz_machine.proofs.runs.Runs.{all_has, has_left, has_right, has_split}
 use Rattle.nz_audit.specs.declared.source.Source.{Source}
 use Rattle.nz_audit.specs.declared.source.AcceptedAt.{AcceptedAt}
-use Rattle.nz_audit.specs.declared.source.AcceptedAnswer.{AcceptedAnswer}
+use Rattle.nz_audit.specs.declared.source.Traced.{Traced}
 use Rattle.nz_audit.specs.declared.source.Counted.{Counted}
 use Rattle.nz_audit.specs.declared.searching.Search.{Search}
 use Rattle.nz_audit.specs.Prefixes.{with_source, source_by, traced, all_traced, is_shorter, IsWithin, IsBestIfAny, IsFound}
@@ -65,7 +65,7 @@ traced_within journal some all among within = all_of (IsWithin journal) (all_tra
     let t = given_has (traced journal) some x k in
     all_has (IsWithin journal) (all_traced journal all) x within (has_given (traced journal) all t.0 x (among t.0 t.1.0) t.1.1))
 
-traced_some : (journal : Journal) (some all : List AcceptedAt) → ((a : AcceptedAt) → Has some a → Has all a) → (x : AcceptedAnswer)
+traced_some : (journal : Journal) (some all : List AcceptedAt) → ((a : AcceptedAt) → Has some a → Has all a) → (x : Traced)
     → Has (all_traced journal some) x → Has (all_traced journal all) x
 traced_some journal some all among x k =
     let t = given_has (traced journal) some x k in has_given (traced journal) all t.0 x (among t.0 t.1.0) t.1.1
@@ -78,22 +78,22 @@ is_short o a = is_shorter o a.sent
 abbrev pub may_be_longest : Option Counted → AcceptedAt → Bool
 may_be_longest o a = not (is_short o a)
 
-as_few_sent : (journal : Journal) (a : AcceptedAt) (x : AcceptedAnswer) → traced journal a ≡ Some x → a.sent ≡ x.sent
+as_few_sent : (journal : Journal) (a : AcceptedAt) (x : Traced) → traced journal a ≡ Some x → a.sent ≡ x.accepted.sent
 as_few_sent journal a x e = by_source (source_by journal a.place (slice_get journal.records a.place)) e
   where
-    by_source : (o : Option Source) → with_source o a ≡ Some x → a.sent ≡ x.sent
+    by_source : (o : Option Source) → with_source o a ≡ Some x → a.sent ≡ x.accepted.sent
     by_source None k = absurd (none-some x k)
-    by_source (Some s) k = ap (λ (y : AcceptedAnswer). y.sent) (same_Some (record { place = a.place; id = a.id; source = s; sent = a.sent }) x k)
+    by_source (Some s) k = ap (λ (y : Traced). y.accepted.sent) (same_Some (record { accepted = a; source = s }) x k)
 
-best_stays_longest : (journal : Journal) (done xs : List AcceptedAnswer) (o : Option Counted) → AllByRecursion (IsWithin journal) xs
-    → AllByRecursion (λ x. is_shorter o x.sent ≡ true) xs → IsBestIfAny journal done o → IsBestIfAny journal (done ++ xs) o
-best_stays_longest journal done [] o within short h = subst (λ (l : List AcceptedAnswer). IsBestIfAny journal l o) (sym (append-nil done)) h
+best_stays_longest : (journal : Journal) (done xs : List Traced) (o : Option Counted) → AllByRecursion (IsWithin journal) xs
+    → AllByRecursion (λ x. is_shorter o x.accepted.sent ≡ true) xs → IsBestIfAny journal done o → IsBestIfAny journal (done ++ xs) o
+best_stays_longest journal done [] o within short h = subst (λ (l : List Traced). IsBestIfAny journal l o) (sym (append-nil done)) h
 best_stays_longest journal done (x ∷ xs) o within short h =
-    subst (λ (l : List AcceptedAnswer). IsBestIfAny journal l o) (append_assoc done (x ∷ []) xs)
+    subst (λ (l : List Traced). IsBestIfAny journal l o) (append_assoc done (x ∷ []) xs)
     (best_stays_longest journal (done ++ x ∷ []) xs o within.1 short.1 (best_stays journal done x o within.0.sent short.0 h))
 
 -- the shorter ones need not be counted
-pub found_skips : (journal : Journal) (done : List AcceptedAnswer) (others : List AcceptedAt) (s : Search)
+pub found_skips : (journal : Journal) (done : List Traced) (others : List AcceptedAt) (s : Search)
     → AllByRecursion (IsWithin journal) (all_traced journal others) → IsFound journal done s
     → IsFound journal (done ++ all_traced journal (filter (is_short s.best) others)) s
 found_skips journal done others s within h =
@@ -103,30 +103,30 @@ found_skips journal done others s within h =
       best =
           best_stays_longest journal done (all_traced journal shorts) s.best
           (traced_within journal shorts others (λ a k. (filtered_has (is_short s.best) others a k).0) within)
-          (all_of (λ x. is_shorter s.best x.sent ≡ true) (all_traced journal shorts) (λ x k.
+          (all_of (λ x. is_shorter s.best x.accepted.sent ≡ true) (all_traced journal shorts) (λ x k.
           let t = given_has (traced journal) shorts x k in
           ap (is_shorter s.best) (sym (as_few_sent journal t.0 x t.1.1)) ∙ (filtered_has (is_short s.best) others t.0 t.1.0).1))
           h.best;
     }
 
 -- the shorter ones and the rest are all of them
-pub found_of_all : (journal : Journal) (done : List AcceptedAnswer) (answers : List AcceptedAt) (o : Option Counted) (s : Search)
+pub found_of_all : (journal : Journal) (done : List Traced) (answers : List AcceptedAt) (o : Option Counted) (s : Search)
     → IsFound journal ((done ++ all_traced journal (filter (is_short o) answers)) ++ all_traced journal (filter (may_be_longest o) answers)) s
     → IsFound journal (done ++ all_traced journal answers) s
 found_of_all journal done answers o s = found_among journal ((done ++ shorts) ++ rest) (done ++ all_traced journal answers) s there back
   where
-    shorts : List AcceptedAnswer
+    shorts : List Traced
     shorts = all_traced journal (filter (is_short o) answers)
 
-    rest : List AcceptedAnswer
+    rest : List Traced
     rest = all_traced journal (filter (may_be_longest o) answers)
 
-    some : (p : AcceptedAt → Bool) (x : AcceptedAnswer) → Has (all_traced journal (filter p answers)) x → Has (done ++ all_traced journal answers) x
+    some : (p : AcceptedAt → Bool) (x : Traced) → Has (all_traced journal (filter p answers)) x → Has (done ++ all_traced journal answers) x
     some p x k =
         has_right done (all_traced journal answers) x
         (traced_some journal (filter p answers) answers (λ a n. (filtered_has p answers a n).0) x k)
 
-    there : (x : AcceptedAnswer) → Has ((done ++ shorts) ++ rest) x → Has (done ++ all_traced journal answers) x
+    there : (x : Traced) → Has ((done ++ shorts) ++ rest) x → Has (done ++ all_traced journal answers) x
     there x k = elim (has_split (done ++ shorts) rest x k) [
       | inl m ↦ elim (has_split done shorts x m) [
         | inl earlier ↦ has_left done (all_traced journal answers) x earlier
@@ -135,7 +135,7 @@ found_of_all journal done answers o s = found_among journal ((done ++ shorts) ++
       | inr may ↦ some (may_be_longest o) x may
     ]
 
-    among : (x : AcceptedAnswer) (a : AcceptedAt) → traced journal a ≡ Some x → Has answers a → Has ((done ++ shorts) ++ rest) x
+    among : (x : Traced) (a : AcceptedAt) → traced journal a ≡ Some x → Has answers a → Has ((done ++ shorts) ++ rest) x
     among x a e k = elim (cases_Bool (is_short o a)) [
       | inl short ↦ has_left (done ++ shorts) rest x
           (has_right done shorts x (has_given (traced journal) (filter (is_short o) answers) a x (has_filtered (is_short o) answers a k short) e))
@@ -143,16 +143,16 @@ found_of_all journal done answers o s = found_among journal ((done ++ shorts) ++
           (has_given (traced journal) (filter (may_be_longest o) answers) a x (has_filtered (may_be_longest o) answers a k (ap not may)) e)
     ]
 
-    back : (x : AcceptedAnswer) → Has (done ++ all_traced journal answers) x → Has ((done ++ shorts) ++ rest) x
+    back : (x : Traced) → Has (done ++ all_traced journal answers) x → Has ((done ++ shorts) ++ rest) x
     back x k = elim (has_split done (all_traced journal answers) x k) [
       | inl earlier ↦ has_left (done ++ shorts) rest x (has_left done shorts x earlier)
       | inr own ↦ let t = given_has (traced journal) answers x own in among x t.0 t.1.1 t.1.0
     ]
 
 -- those that are kept are traced, and the shorter ones are not
-pub found_kept : (journal : Journal) (done : List AcceptedAnswer) (answers kept : List AcceptedAt) (old new : Search)
+pub found_kept : (journal : Journal) (done : List Traced) (answers kept : List AcceptedAt) (old new : Search)
     → kept ≡ filter (may_be_longest old.best) answers → AllByRecursion (IsWithin journal) (all_traced journal answers)
-    → ((earlier : List AcceptedAnswer) → IsFound journal earlier old → IsFound journal (earlier ++ all_traced journal kept) new)
+    → ((earlier : List Traced) → IsFound journal earlier old → IsFound journal (earlier ++ all_traced journal kept) new)
     → IsFound journal done old → IsFound journal (done ++ all_traced journal answers) new
 found_kept journal done answers kept old new is within counts h =
     let shorts = all_traced journal (filter (is_short old.best) answers) in
@@ -184,18 +184,18 @@ parts_within journal place all within =
 pub found_in_turn : (journal : Journal) (place : ℕ) (all late others : List AcceptedAt) (s : Search) → late ≡ drop place all → others ≡ take place all
     → IsFound journal (all_traced journal late ++ all_traced journal others) s → IsFound journal (all_traced journal all) s
 found_in_turn journal place all late others s ends begins h =
-    subst (λ (l : List AcceptedAnswer). IsFound journal l s)
+    subst (λ (l : List Traced). IsFound journal l s)
     (sym (filter_map-append (traced journal) others late) ∙ ap (all_traced journal) whole)
     (found_among journal (own ++ rest) (rest ++ own) s (turned own rest) (turned rest own) h)
   where
     whole : others ++ late ≡ all
     whole = (λ i. begins i ++ ends i) ∙ take-append-drop place all
 
-    own : List AcceptedAnswer
+    own : List Traced
     own = all_traced journal late
 
-    rest : List AcceptedAnswer
+    rest : List Traced
     rest = all_traced journal others
 
-    turned : (xs ys : List AcceptedAnswer) (x : AcceptedAnswer) → Has (xs ++ ys) x → Has (ys ++ xs) x
+    turned : (xs ys : List Traced) (x : Traced) → Has (xs ++ ys) x → Has (ys ++ xs) x
     turned xs ys x k = elim (has_split xs ys x k) [ inl m ↦ has_right ys xs x m | inr n ↦ has_left ys xs x n ]

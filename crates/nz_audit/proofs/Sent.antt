@@ -16,10 +16,9 @@ use Rattle.nz_machine.specs.declared.event.Record.{Record}
 use Rattle.nz_machine.specs.rules.State.{Group}
 use Rattle.nz_machine.specs.runs.World.{state_after, World}
 use Rattle.nz_machine.specs.runs.Events as events
-use Rattle.nz_machine.specs.runs.Events.{ClientEvent, Sent, client_events}
-use Rattle.nz_machine.specs.journals.ClientProgress.{acceptance_events, request_events, events_of_telling}
-use Rattle.nz_machine.specs.declared.client_progress.Acceptance.{Acceptance}
-use Rattle.nz_machine.specs.declared.client_progress.Telling.{Telling}
+use Rattle.nz_machine.specs.declared.client_event.ClientEvent.{ClientEvent}
+use Rattle.nz_machine.specs.declared.client_event.ClientEvent.TheVariants.{Sent, Accepted}
+use Rattle.nz_machine.specs.runs.Events.{client_events}
 use Rattle.nz_machine.specs.runs.History.{log_at, cut_at, cut_after}
 use Rattle.nz_machine.proofs.facts.IdCounts.{times, own_times}
 use Rattle.nz_laws_commit.proofs.FactsStay.{facts_stay}
@@ -74,7 +73,7 @@ few_sent (Sent i command ∷ E) es own all =
     let parts = with_id i es in
     let rest = few_sent E (filter (other i) es) (own_filter (other i) es own) (sent_without i command E es all) in
     omega (arith, once, parts, rest)
-few_sent (events.Accepted i answer path ∷ E) es own all = few_sent E es own (sent_besides (events.Accepted i answer path) E refl es all)
+few_sent (Accepted i answer path ∷ E) es own all = few_sent E es own (sent_besides (Accepted i answer path) E refl es all)
 
 -- ---- logs of a run
 
@@ -89,7 +88,7 @@ log_few g K m w =
 pub sent_more : (E F : List ClientEvent) → requests_sent (E ++ F) ≡ requests_sent E + requests_sent F
 sent_more [] F = omega arith
 sent_more (Sent i command ∷ E) F = let rest = sent_more E F in omega (arith, rest)
-sent_more (events.Accepted i answer path ∷ E) F = sent_more E F
+sent_more (Accepted i answer path ∷ E) F = sent_more E F
 
 sent_later : (g : Group) (later K : List Record) → requests_sent (events.events g K) ≤ requests_sent (events.events g (later ++ K))
 sent_later g [] K = omega arith
@@ -112,22 +111,8 @@ prefix_few g J later K m id w at =
     let e : requests_sent (events.events g J) ≡ requests_sent (events.events g (later ++ K)) = ap (λ (l : List Record). requests_sent (events.events g l)) at in
     omega (arith, a, b, d, e)
 
--- ---- what a record tells
+-- ---- one record more
 
-asked_count : (g : Group) (ids : List Id) → requests_sent (request_events g ids) ≡ length ids
-asked_count g [] = refl
-asked_count g (i ∷ ids) = ap suc (asked_count g ids)
-
-accepted_count : (o : Option Acceptance) → requests_sent (acceptance_events o) ≡ 0
-accepted_count None = refl
-accepted_count (Some a) = refl
-
-pub sent_then : (g : Group) (r : Record) (J : List Record) (t : Telling) (n : ℕ) → events_of_telling g t ≡ client_events g r.actor r J
-    → n ≡ requests_sent (events.events g J) → n + length t.sent ≡ requests_sent (events.events g (r ∷ J))
-sent_then g r J t n told is =
-    let a = sent_more (acceptance_events t.accepted) (request_events g t.sent) in
-    let b = accepted_count t.accepted in
-    let d = asked_count g t.sent in
-    let e = sent_more (events.events g J) (client_events g r.actor r J) in
-    let h : requests_sent (events_of_telling g t) ≡ requests_sent (client_events g r.actor r J) = ap requests_sent told in
-    omega (arith, a, b, d, e, h, is)
+pub sent_then : (g : Group) (r : Record) (J : List Record) (n : ℕ) → n ≡ requests_sent (events.events g J)
+    → n + requests_sent (client_events g r.actor r J) ≡ requests_sent (events.events g (r ∷ J))
+sent_then g r J n is = let all = sent_more (events.events g J) (client_events g r.actor r J) in omega (arith, all, is)

@@ -12,7 +12,7 @@ use Rattle.nz_machine.specs.runs.World.{World, Has}
 use Rattle.nz_machine.proofs.runs.Runs.{all_has}
 use Rattle.nz_audit.specs.declared.source.Source.{Source}
 use Rattle.nz_audit.specs.declared.source.AcceptedAt.{AcceptedAt}
-use Rattle.nz_audit.specs.declared.source.AcceptedAnswer.{AcceptedAnswer}
+use Rattle.nz_audit.specs.declared.source.Traced.{Traced}
 use Rattle.nz_audit.specs.declared.sending.ParcelKey.{ParcelKey}
 use Rattle.nz_replay.specs.Runs.{run_up_to}
 use Rattle.nz_audit.specs.Prefixes.{is_to, traced, all_traced, with_accepted, IsAccepted}
@@ -47,9 +47,9 @@ pub all_known : (journal : Journal) (w : Id → Bool) (answers : List AcceptedAt
 all_known journal w answers table world accepted wanted h = all_of (IsKnown journal table) answers (λ a k.
     is_known journal w a table world (all_has (IsAccepted journal) answers a accepted k) (wanted a.id ∙ is_wanted answers a k) h)
 
-pub traced_next : (journal : Journal) (answers : List AcceptedAt) (i : ℕ) (d : AcceptedAt) (old new : List AcceptedAnswer) → i < length answers
+pub traced_next : (journal : Journal) (answers : List AcceptedAt) (i : ℕ) (d : AcceptedAt) (old new : List Traced) → i < length answers
     → old ≡ all_traced journal (take i answers) → new ≡ with_accepted old (traced journal (get_or answers i d))
     → new ≡ all_traced journal (take (i + 1) answers)
 traced_next journal answers i d old new lt before after =
-    after ∙ ap (λ (l : List AcceptedAnswer). with_accepted l (traced journal (get_or answers i d))) before
+    after ∙ ap (λ (l : List Traced). with_accepted l (traced journal (get_or answers i d))) before
     ∙ sym (traced_more journal (take i answers) (get_or answers i d)) ∙ ap (all_traced journal) (sym (take_more answers i d lt))

@@ -5,7 +5,7 @@ ghost use Rattle.std.specs.List.{list_all};
 ghost use Rattle.nz_machine.specs.runs.History as histories;
 ghost use Rattle.nz_machine.specs.journals.Journals.{group_in, run_in, executed_entries, history_in};
 ghost use Rattle.nz_machine.specs.rules.State.{Group};
-ghost use Rattle.nz_machine.specs.journals.Tellings.{told_by_run};
+ghost use Rattle.nz_machine.specs.journals.EventNotes.{events_at};
 ghost use Rattle.nz_machine.specs.runs.World.{World};
 ghost use Rattle.nz_machine.specs.declared.event.Record.{Record};
 ghost use Rattle.nz_machine.specs.declared.journal.Journal.{Journal};
@@ -20,7 +20,7 @@ use super::source::AcceptedAt;
 use super::telling::accepted_in;
 use nz_base::{Cluster, NoMemory};
 use nz_log::HashedLog;
-use nz_machine::{History, ToldAt};
+use nz_machine::{EventAt, History};
 use nz_replica::Replica;
 use std::alloc::Global;
 
@@ -78,17 +78,17 @@ pub fn history_by_accepted(
     }
 }
 
-/// The history of a run that stayed in its first view, None where it may not have. It takes no journal: what the
-/// clients told is given, and so are the replicas as they are after the run's last record.
+/// The history of a run that stayed in its first view, None where it may not have. It takes no journal: the events of
+/// its clients are given, and so are the replicas as they are after the run's last record.
 pub fn first_history(
     alloc: Global,
     cluster: Cluster,
-    told: &[ToldAt],
+    events: &[EventAt],
     replicas: &[Replica],
 ) -> Result<Option<History>, NoMemory>
-    ensures { IfOk result (λ o. IfSome o (λ history. (g : Group) (J : List Record) → g.f ≡ cluster → World g J → told.now ≡ told_by_run g J
+    ensures { IfOk result (λ o. IfSome o (λ history. (g : Group) (J : List Record) → g.f ≡ cluster → World g J → events.now ≡ events_at g J
         → AreCores g J replicas.now → history ≡ executed_entries (histories.history g J))) }
 {
-    let accepted = accepted_in(alloc, told)?;
+    let accepted = accepted_in(alloc, events)?;
     history_by_accepted(alloc, cluster, accepted.as_slice(), replicas)
 }

@@ -11,7 +11,7 @@ ghost use Rattle.nz_replay.specs.Runs.{run_up_to};
 ghost use Rattle.nz_audit.specs.Leading.{view_of_message, view_brought, first_view_brought, RepliesIn};
 ghost use Rattle.nz_audit.specs.Prefixes.{HasPrefix, IsWithin};
 
-use super::source::{AcceptedAnswer, Source};
+use super::source::{Source, Traced};
 use nz_base::NoMemory;
 use nz_log::HashedLog;
 use nz_machine::{Journal, Parcel, SharedParcel, heard};
@@ -103,7 +103,7 @@ pub fn log_since<'a>(
     alloc: Global,
     journal: &Journal,
     replicas: &'a [Replica],
-    next: &AcceptedAnswer,
+    next: &Traced,
 ) -> Result<Option<&'a HashedLog>, NoMemory>
     requires within { IsWithin journal.now next.now }
     requires replicas { AreCores (group_in journal.now) (run_in journal.now) replicas.now }

@@ -1,4 +1,4 @@
-//! The history of a run, read off its journal. Where the run stayed in its first view, what its clients told and its
+//! The history of a run, read off its journal. Where the run stayed in its first view, the events of its clients and its
 //! replicas are enough.
 //!
 //! The definition finds an accepted prefix at a source, the first record that sent the deciding reply. Two

@@ -6,14 +6,14 @@ ghost use Rattle.nz_machine.specs.runs.History.{cut_after};
 ghost use Rattle.nz_machine.specs.journals.Journals.{group_in, run_in};
 ghost use Rattle.nz_machine.specs.runs.World.{World};
 ghost use Rattle.nz_machine.specs.declared.journal.Journal.{Journal as JournalModel};
-ghost use Rattle.nz_audit.specs.declared.source.AcceptedAnswer.{AcceptedAnswer as AcceptedModel};
+ghost use Rattle.nz_audit.specs.declared.source.Traced.{Traced as TracedModel};
 ghost use Rattle.nz_replica.specs.Models.{AreCores};
 ghost use Rattle.nz_audit.specs.Prefixes.{prefix_for, all_traced, is_shorter, IsAccepted, IsWithin, IsFound};
 ghost use Rattle.nz_audit.specs.Cores.{AreReplayed};
 
 use super::leading::log_since;
 use super::replaying::{Replays, replay};
-use super::source::{AcceptedAnswer, AcceptedAt, Counted, Source, longer};
+use super::source::{AcceptedAt, Counted, Source, Traced, longer};
 use super::tracing::trace;
 use nz_base::{Id, NoMemory};
 use nz_log::HashedLog;
@@ -43,7 +43,7 @@ pub fn entries_up_to(log: &HashedLog, id: Id) -> u32
 }
 
 /// The one of the latest source.
-fn latest(accepted: &[AcceptedAnswer]) -> Option<AcceptedAnswer> {
+fn latest(accepted: &[Traced]) -> Option<Traced> {
     accepted
         .iter()
         .copied()
@@ -51,7 +51,7 @@ fn latest(accepted: &[AcceptedAnswer]) -> Option<AcceptedAnswer> {
 }
 
 /// Those of one replica together, in the order of their sources; those of the replica with the latest one first.
-fn put_in_order(accepted: &mut Vec<AcceptedAnswer>)
+fn put_in_order(accepted: &mut Vec<Traced>)
     ensures { IsPermutation accepted.old.items accepted.new.items }
 {
     let Some(last) = latest(accepted) else {
@@ -66,7 +66,7 @@ fn count_replayed(
     alloc: Global,
     journal: &Journal,
     replays: &mut Replays,
-    next: &AcceptedAnswer,
+    next: &Traced,
 ) -> Result<u32, NoMemory>
     requires within { IsWithin journal.now next.now }
     requires replays { AreReplayed journal.now replays.old }
@@ -74,7 +74,7 @@ fn count_replayed(
     ensures entries { IfOk result (λ entries. entries ≡ length (prefix_for journal.now next.now)) }
 {
     let at = replay(alloc, journal, replays.at.take(), next.source)?;
-    let entries = entries_up_to(at.core.log(), next.id);
+    let entries = entries_up_to(at.core.log(), next.accepted.id);
     replays.at = Some(at);
     Ok(entries)
 }
@@ -116,7 +116,7 @@ impl Search {
     /// The source of the longest prefix so far.
     fn longest(&self) -> Option<Source> {
         match &self.best {
-            Some(best) => Some(best.accepted.source),
+            Some(best) => Some(best.answer.source),
             None => None,
         }
     }
@@ -128,7 +128,7 @@ impl Search {
         alloc: Global,
         journal: &Journal,
         replicas: &[Replica],
-        next: &AcceptedAnswer,
+        next: &Traced,
     ) -> Result<u32, NoMemory>
         requires within { IsWithin journal.now next.now }
         requires replicas { AreCores (group_in journal.now) (run_in journal.now) replicas.now }
@@ -138,7 +138,7 @@ impl Search {
         ensures entries { IfOk result (λ entries. entries ≡ length (prefix_for journal.now next.now)) }
     {
         match log_since(alloc, journal, replicas, next)? {
-            Some(log) => Ok(entries_up_to(log, next.id)),
+            Some(log) => Ok(entries_up_to(log, next.accepted.id)),
             None => {
                 let longest = self.longest();
                 self.replays.keep_longest(longest, next.source);
@@ -153,20 +153,20 @@ impl Search {
         alloc: Global,
         journal: &Journal,
         replicas: &[Replica],
-        next: &AcceptedAnswer,
+        next: &Traced,
     ) -> Result<(), NoMemory>
         requires within { IsWithin journal.now next.now }
         requires replicas { AreCores (group_in journal.now) (run_in journal.now) replicas.now }
         requires replays { AreReplayed journal.now self.old.replays }
         ensures replays { OnOk result (AreReplayed journal.now self.new.replays) }
-        ensures found { OnOk result ((done : List AcceptedModel) → IsFound journal.now done self.old → IsFound journal.now (done ++ next.now ∷ []) self.new) }
+        ensures found { OnOk result ((done : List TracedModel) → IsFound journal.now done self.old → IsFound journal.now (done ++ next.now ∷ []) self.new) }
     {
-        if self.is_shorter(next.sent) {
+        if self.is_shorter(next.accepted.sent) {
             return Ok(());
         }
         let entries = self.count(alloc, journal, replicas, next)?;
         let counted = Counted {
-            accepted: *next,
+            answer: *next,
             entries,
         };
         self.best = Some(longer(self.best, counted));
@@ -179,13 +179,13 @@ impl Search {
         alloc: Global,
         journal: &Journal,
         replicas: &[Replica],
-        accepted: &[AcceptedAnswer],
+        accepted: &[Traced],
     ) -> Result<(), NoMemory>
         requires within { AllByRecursion (IsWithin journal.now) accepted.now }
         requires replicas { AreCores (group_in journal.now) (run_in journal.now) replicas.now }
         requires replays { AreReplayed journal.now self.old.replays }
         ensures replays { OnOk result (AreReplayed journal.now self.new.replays) }
-        ensures found { OnOk result ((done : List AcceptedModel) → IsFound journal.now done self.old → IsFound journal.now (done ++ accepted.now) self.new) }
+        ensures found { OnOk result ((done : List TracedModel) → IsFound journal.now done self.old → IsFound journal.now (done ++ accepted.now) self.new) }
     {
         for next in accepted {
             self.weigh(alloc, journal, replicas, next)?;
@@ -207,7 +207,7 @@ impl Search {
         requires within { AllByRecursion (IsWithin journal.now) (all_traced journal.now answers.now) }
         requires replays { AreReplayed journal.now self.old.replays }
         ensures replays { OnOk result (AreReplayed journal.now self.new.replays) }
-        ensures found { OnOk result ((done : List AcceptedModel) → IsFound journal.now done self.old
+        ensures found { OnOk result ((done : List TracedModel) → IsFound journal.now done self.old
             → IsFound journal.now (done ++ all_traced journal.now answers.now) self.new) }
     {
         let mut accepted = trace(alloc, journal, answers)?;
@@ -228,7 +228,7 @@ impl Search {
         requires accepted { AllByRecursion (IsAccepted journal.now) answers.items }
         requires within { AllByRecursion (IsWithin journal.now) (all_traced journal.now answers.items) }
         requires replays { AreReplayed journal.now self.old.replays }
-        ensures { OnOk result ((done : List AcceptedModel) → IsFound journal.now done self.old
+        ensures { OnOk result ((done : List TracedModel) → IsFound journal.now done self.old
             → IsFound journal.now (done ++ all_traced journal.now answers.items) self.new) }
     {
         let mut answers = answers;

@@ -1,7 +1,7 @@
-//! Accepted answers, and where they come from.
+//! AcceptedAt answers, and where they come from.
 
-ghost use Rattle.std.specs.Prelude.{◌≡◌, Some};
-ghost use Rattle.nz_audit.specs.Prefixes.{with_source, first_longest};
+ghost use Rattle.std.specs.Prelude.{◌≡◌};
+ghost use Rattle.nz_audit.specs.Prefixes.{first_longest};
 
 use nz_base::Id;
 
@@ -24,33 +24,17 @@ pub struct AcceptedAt {
     pub sent: u32,
 }
 
-impl AcceptedAt {
-    /// The same, with where it comes from.
-    pub fn from(&self, source: Source) -> AcceptedAnswer
-        ensures { Some result ≡ with_source (Some source) self.now }
-    {
-        AcceptedAnswer {
-            place: self.place,
-            id: self.id,
-            source,
-            sent: self.sent,
-        }
-    }
-}
-
-/// An answer that was accepted, and where it comes from.
+/// An accepted answer, and where it comes from.
 #[derive(Clone, Copy, Debug)]
-pub struct AcceptedAnswer {
-    pub place: u32,
-    pub id: Id,
+pub struct Traced {
+    pub accepted: AcceptedAt,
     pub source: Source,
-    pub sent: u32,
 }
 
 /// An accepted answer whose prefix was counted.
 #[derive(Clone, Copy, Debug)]
 pub struct Counted {
-    pub accepted: AcceptedAnswer,
+    pub answer: Traced,
     /// How many entries the replica's log had at the source, up to and with that of the request.
     pub entries: u32,
 }
@@ -65,7 +49,7 @@ pub fn longer(best: Option<Counted>, next: Counted) -> Counted
     if best.entries < next.entries {
         return next;
     }
-    if best.entries == next.entries && next.accepted.place < best.accepted.place {
+    if best.entries == next.entries && next.answer.accepted.place < best.answer.accepted.place {
         return next;
     }
     best

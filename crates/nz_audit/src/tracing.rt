@@ -1,4 +1,4 @@
-//! Accepted answers, each traced to where it comes from.
+//! AcceptedAt answers, each traced to where it comes from.
 
 ghost use Rattle.std.specs.Prelude.{◌≡◌, IfOk, OnOk};
 ghost use Rattle.std.specs.List.{AllByRecursion, list_any};
@@ -12,7 +12,7 @@ ghost use Rattle.nz_audit.specs.Readings.{IsKnown};
 
 use super::reading::sendings_in;
 use super::sending::Sendings;
-use super::source::{AcceptedAnswer, AcceptedAt};
+use super::source::{AcceptedAt, Traced};
 use nz_base::{Id, NoMemory};
 use nz_machine::Journal;
 use std::alloc::Global;
@@ -31,7 +31,7 @@ fn requests_of(alloc: Global, answers: &[AcceptedAt]) -> Result<HashSet<Id>, NoM
 
 /// Adds the answer with its source, if it has one.
 fn add_traced(
-    found: &mut Vec<AcceptedAnswer>,
+    found: &mut Vec<Traced>,
     sendings: &Sendings,
     journal: &Journal,
     answer: &AcceptedAt,
@@ -42,7 +42,10 @@ fn add_traced(
 {
     let accepting = journal.records.get(answer.place);
     if let Some(source) = sendings.source_of_event(&accepting.as_record().event)? {
-        found.push(answer.from(source))?;
+        found.push(Traced {
+            accepted: *answer,
+            source,
+        })?;
     }
     Ok(())
 }
@@ -68,7 +71,7 @@ fn with_sources(
     sendings: &Sendings,
     journal: &Journal,
     answers: &[AcceptedAt],
-) -> Result<Vec<AcceptedAnswer>, NoMemory>
+) -> Result<Vec<Traced>, NoMemory>
     requires accepted { AllByRecursion (IsAccepted journal.now) answers.now }
     requires sources { AllByRecursion (IsKnown journal.now sendings.now.kept.entries) answers.now }
     ensures { IfOk result (λ found. found.items ≡ all_traced journal.now answers.now) }
@@ -85,7 +88,7 @@ pub fn trace(
     alloc: Global,
     journal: &Journal,
     answers: &[AcceptedAt],
-) -> Result<Vec<AcceptedAnswer>, NoMemory>
+) -> Result<Vec<Traced>, NoMemory>
     requires world { World (group_in journal.now) (run_in journal.now) }
     requires accepted { AllByRecursion (IsAccepted journal.now) answers.now }
     ensures { IfOk result (λ found. found.items ≡ all_traced journal.now answers.now) }

@@ -39,7 +39,8 @@ use Rattle.nz_machine.specs.rules.Replicas.{commands}
 use Rattle.nz_machine.specs.rules.Step.{envelope_for, node_step}
 use Rattle.nz_machine.specs.runs.World.{state_after, sent_in, Has, IsGroup, IsMember, MayHappen, World}
 use Rattle.std.proofs.lemmas.Option.{none-some, same_Some}
-use Rattle.nz_machine.specs.runs.Events.{Sent, Accepted, events}
+use Rattle.nz_machine.specs.declared.client_event.ClientEvent.TheVariants.{Sent, Accepted}
+use Rattle.nz_machine.specs.runs.Events.{events}
 use Rattle.nz_machine.specs.runs.History.{source, decision_moment, accepted_prefix, history}
 use Rattle.nz_machine.specs.runs.OneHistory.{NoCollision}
 use Rattle.nz_lin.specs.Replied.{replied_lists}

@@ -9,10 +9,9 @@ ghost use Rattle.nz_text.specs.Reading.{send_in_words, accept_in_words, open_in_
 ghost use Rattle.nz_text.specs.declared.line.Line.TheVariants as line;
 ghost use Rattle.nz_text.specs.declared.line.TheConstants.{MAX_WORDS};
 
-use super::printed::Event;
 use arrayvec::ArrayVec;
 use nz_base::{Blob, Id, NoMemory};
-use nz_machine::Executed;
+use nz_machine::{ClientEvent, Executed};
 use nz_msg::Path;
 use nz_script::{command_first, cut_at, number_of};
 use nz_store::{Answer, Blob as Value, CommandRef, is_value, write_command};
@@ -26,7 +25,7 @@ type WordList<'a> = ArrayVec<&'a [u8], MAX_WORDS>;
 /// A line of a text.
 #[derive(Drop)]
 pub enum Line {
-    Event(Event),
+    Event(ClientEvent),
     Open(Id),
     /// The place in the history, from 1.
     At(u64, Executed),
@@ -174,7 +173,7 @@ fn send_line(alloc: Global, id: Id, words: &[&[u8]]) -> Result<Option<Line>, NoM
     match rest {
         [] => {
             let command = spelled(alloc, command)?;
-            Ok(Some(Line::Event(Event::Send { id, command })))
+            Ok(Some(Line::Event(ClientEvent::Sent { id, command })))
         }
         [_, ..] => Ok(None),
     }
@@ -189,7 +188,7 @@ fn accept_line(alloc: Global, id: Id, words: &[&[u8]]) -> Result<Option<Line>, N
     let Some(path) = path_of(rest) else {
         return Ok(None);
     };
-    Ok(Some(Line::Event(Event::Accept { id, answer, path })))
+    Ok(Some(Line::Event(ClientEvent::Accepted { id, answer, path })))
 }
 
 /// The answer after the word `gives`.

@@ -15,4 +15,4 @@ returns-in-Some c =
     let a = c.args.next.now in
     let replies = subst (λ (o : Option ℕ). IfSome o (λ v. RepliesIn v (run_up_to j a.source.records))) c.in-Some.is c.in_ok-view.ensures in
     IfSome_then c.log_leading.result c.log_leading.ensures.log (λ log is.
-    ap (λ (l : List Entry). cut_after a.id l) (is (group_in j) (run_in j) c.requires.replicas) ∙ c.requires.within.led c.in-Some.view replies)
+    ap (λ (l : List Entry). cut_after a.accepted.id l) (is (group_in j) (run_in j) c.requires.replicas) ∙ c.requires.within.led c.in-Some.view replies)

@@ -16,7 +16,7 @@ pub returns-clause-found : goal.returns-clause-found
 returns-clause-found c = λ done h.
     let j = c.args.journal.now in
     let a = c.args.next.now in
-    let next : Counted = record { accepted = a; entries = c.in_ok-entries.entries } in
+    let next : Counted = record { answer = a; entries = c.in_ok-entries.entries } in
     let before : IsBestIfAny j done c.count.new.self.best = subst (IsBestIfAny j done) (sym c.in_ok-entries.ensures.best) h.best in
     record {
       replays = c.in_ok-entries.ensures.replays;

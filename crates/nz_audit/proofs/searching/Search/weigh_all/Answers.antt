@@ -3,7 +3,7 @@ use Rattle.std.proofs.Common.{List, ◌++◌, sym, subst}
 use Rattle.std.specs.Prelude.{IsPermutation}
 use Rattle.std.specs.List.{AllByRecursion}
 use Rattle.std.proofs.lemmas.Result.{on_ok_weaker}
-use Rattle.nz_audit.specs.declared.source.AcceptedAnswer.{AcceptedAnswer}
+use Rattle.nz_audit.specs.declared.source.Traced.{Traced}
 use Rattle.nz_audit.specs.Prefixes.{all_traced, IsWithin, IsFound}
 use Rattle.nz_audit.proofs.Found.{all_permuted, found_permuted}
 use Rattle.nz_audit.proofs.searching.Search.weigh_all.Goals as goal
@@ -22,5 +22,5 @@ returns-clause-found c = on_ok_weaker c.weigh_each.result (λ found done h.
     let traced = all_traced j c.args.answers.now in
     let ordered = c.put_in_order.new.accepted.items in
     found_permuted j done traced ordered s
-    (subst (λ (l : List AcceptedAnswer). IsPermutation l ordered) c.in_ok-accepted.ensures c.put_in_order.ensures)
-    (subst (λ (l : List AcceptedAnswer). IsFound j (done ++ l) s) c.as_slice.ensures.value (found done h))) c.weigh_each.ensures.found
+    (subst (λ (l : List Traced). IsPermutation l ordered) c.in_ok-accepted.ensures c.put_in_order.ensures)
+    (subst (λ (l : List Traced). IsFound j (done ++ l) s) c.as_slice.ensures.value (found done h))) c.weigh_each.ensures.found
