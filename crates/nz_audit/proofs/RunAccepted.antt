@@ -15,11 +15,11 @@ use Rattle.nz_machine.specs.journals.EventNotes.{all_at, events_at}
 use Rattle.nz_machine.specs.runs.World.{World}
 use Rattle.nz_replay.specs.Runs.{run_up_to}
 use Rattle.nz_audit.specs.Prefixes.{requests_sent, AreAccepted}
-use Rattle.nz_audit.proofs.Accepting.{Acceptances, no_acceptances, with_event, after_events, events_count, events_of_record, accepted_then}
-use Rattle.nz_audit.proofs.Found.{accepted_first, is_at}
+use Rattle.nz_audit.proofs.AcceptedPrefixes.{Acceptances, no_acceptances, with_event, after_events, events_count, events_of_record, accepted_then}
+use Rattle.nz_audit.proofs.SearchFinds.{accepted_first, is_at}
 use Rattle.nz_replay.proofs.Replays.{run_then}
-use Rattle.nz_audit.proofs.Runs.{run_length}
-use Rattle.nz_audit.proofs.Sent.{sent_then}
+use Rattle.nz_audit.proofs.RunsOfSources.{run_length}
+use Rattle.nz_audit.proofs.SentRequests.{sent_then}
 
 events_then : (n : Acceptances) (E F : List EventAt) → after_events n (E ++ F) ≡ after_events (after_events n E) F
 events_then n [] F = refl

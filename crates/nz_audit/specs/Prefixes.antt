@@ -18,11 +18,11 @@ use Rattle.nz_machine.specs.declared.client_event.ClientEvent.TheVariants.{Sent,
 use Rattle.nz_machine.specs.runs.History.{log_at, cut_after, longer, history}
 use Rattle.nz_machine.specs.runs.World.{Has}
 use Rattle.nz_laws_commit.specs.Present.{AreUpWithin}
-use Rattle.nz_audit.specs.declared.source.Source.{Source}
-use Rattle.nz_audit.specs.declared.source.AcceptedAt.{AcceptedAt}
-use Rattle.nz_audit.specs.declared.source.Traced.{Traced}
-use Rattle.nz_audit.specs.declared.source.Counted.{Counted}
-use Rattle.nz_audit.specs.declared.searching.Search.{Search}
+use Rattle.nz_audit.specs.declared.accepted.answers.Source.{Source}
+use Rattle.nz_audit.specs.declared.accepted.answers.AcceptedAt.{AcceptedAt}
+use Rattle.nz_audit.specs.declared.accepted.answers.Traced.{Traced}
+use Rattle.nz_audit.specs.declared.accepted.answers.Counted.{Counted}
+use Rattle.nz_audit.specs.declared.prefixes.search.Search.{Search}
 use Rattle.nz_audit.specs.Sources.{about, delivered_source}
 use Rattle.nz_replay.specs.Runs.{run_up_to}
 use Rattle.nz_audit.specs.Cores.{AreReplayed}

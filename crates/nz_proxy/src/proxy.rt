@@ -87,14 +87,9 @@ impl ProxyState {
             ++ map (parcel (actors.Proxy self.old.me))
             (proxies.reply_rule self.old.f self.old.state replica body.id body.delay (of_fast replica body)).1) }
     {
-        let reply = Reply::Fast {
-            replica,
-            view: body.view,
-            digest: body.digest,
-            vector: body.vector,
-            answer: body.answer,
-        };
-        self.reply_rule(replica, body.id, body.delay, reply, sends)
+        let (id, delay) = (body.id, body.delay);
+        let reply = Reply::from_fast(replica, body);
+        self.reply_rule(replica, id, delay, reply, sends)
     }
 
     fn take_slow(
@@ -113,10 +108,7 @@ impl ProxyState {
             ++ map (parcel (actors.Proxy self.old.me))
             (proxies.reply_rule self.old.f self.old.state replica body.id body.delay (of_slow replica body)).1) }
     {
-        let reply = Reply::Slow {
-            replica,
-            view: body.view,
-        };
+        let reply = Reply::from_slow(replica, &body);
         self.reply_rule(replica, body.id, body.delay, reply, sends)
     }
 

@@ -4,7 +4,7 @@ use Rattle.std.specs.Prelude.{IfSome}
 use Rattle.nz_base.specs.declared.key.Entry.{Entry}
 use Rattle.nz_machine.specs.journals.Journals.{executed_entries}
 use Rattle.nz_audit.specs.Prefixes.{prefix_for, HasPrefix}
-use Rattle.nz_audit.proofs.Found.{log_taken, within_log}
+use Rattle.nz_audit.proofs.SearchFinds.{log_taken, within_log}
 use Rattle.nz_audit.proofs.history.execute_prefix.Goals as goal
 
 pub execute-requires : goal.execute-requires

@@ -3,7 +3,7 @@ use Rattle.std.proofs.Common.{◌≡◌, List, IfOk, subst}
 use Rattle.nz_base.specs.declared.key.Entry.{Entry}
 use Rattle.nz_machine.specs.journals.Journals.{executed_entries}
 use Rattle.nz_audit.specs.Prefixes.{prefix_for}
-use Rattle.nz_audit.proofs.Found.{log_replayed, log_taken, within_log}
+use Rattle.nz_audit.proofs.SearchFinds.{log_replayed, log_taken, within_log}
 use Rattle.nz_audit.proofs.history.execute_replayed.Goals as goal
 
 pub execute-requires : goal.execute-requires

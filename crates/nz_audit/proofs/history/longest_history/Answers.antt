@@ -4,8 +4,8 @@ use Rattle.nz_base.specs.declared.key.Entry.{Entry}
 use Rattle.nz_machine.specs.journals.Journals.{run_in, executed_entries}
 use Rattle.nz_machine.proofs.runs.Runs.{all_has}
 use Rattle.nz_audit.specs.Prefixes.{IsBest, IsBestIfAny, IsWithin, all_traced}
-use Rattle.nz_audit.proofs.Longest.{first_of_all}
-use Rattle.nz_audit.proofs.Found.{nothing_accepted}
+use Rattle.nz_audit.proofs.LongestPrefixes.{first_of_all}
+use Rattle.nz_audit.proofs.SearchFinds.{nothing_accepted}
 use Rattle.nz_audit.proofs.history.longest_history.Goals as goal
 
 pub returns-in-None : goal.returns-in-None

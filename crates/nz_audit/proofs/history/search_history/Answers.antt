@@ -1,5 +1,5 @@
 -- What the function of this folder owes, proved.
-use Rattle.nz_audit.proofs.Found.{found_first}
+use Rattle.nz_audit.proofs.SearchFinds.{found_first}
 use Rattle.nz_audit.proofs.history.search_history.Goals as goal
 
 pub longest_history-requires-clause-first : goal.longest_history-requires-clause-first
