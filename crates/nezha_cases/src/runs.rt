@@ -8,7 +8,7 @@ use crate::report::{Stop, print_line};
 use nz_audit::history_of;
 use nz_base::Scenario;
 use nz_edge::OpenGate;
-use nz_machine::told_in;
+use nz_machine::client_events_in;
 use nz_run::{run, run_alone};
 use nz_script::read;
 use std::alloc::Global;
@@ -60,10 +60,10 @@ pub fn play_replicas<R: Print + Threads + Wait + Sync>(
 pub fn play_histories<R: Print>(rt: &R, alloc: Global, case: &Case) -> Result<(), Stop> {
     let scenario = scenario_of(alloc, case.input.as_str())?;
     let played = run_alone(alloc, &scenario)?;
-    let told = told_in(alloc, &played.journal)?;
-    let told = told.as_slice();
-    let read = history_of(alloc, &played.journal, told, played.replicas.as_slice())?;
-    let replayed = history_of(alloc, &played.journal, told, &[])?;
+    let events = client_events_in(alloc, &played.journal)?;
+    let events = events.as_slice();
+    let read = history_of(alloc, &played.journal, events, played.replicas.as_slice())?;
+    let replayed = history_of(alloc, &played.journal, events, &[])?;
     let (with, without) = (read.len(), replayed.len());
     let name = case.name.as_str();
     let line = format!(in alloc; "{name}: {with} entries by the replicas, {without} without")?;

@@ -19,11 +19,11 @@ use Rattle.nz_machine.specs.runs.World.{state_after}
 use Rattle.nz_machine.specs.runs.History.{cut_after, longer}
 use Rattle.nz_laws_commit.specs.Present.{IsUpWithin, AreUpWithin}
 use Rattle.nz_replica.specs.Models.{ReplicaCore, IsCore, AreCores}
-use Rattle.nz_audit.specs.declared.source.AcceptedAt.{AcceptedAt}
+use Rattle.nz_audit.specs.declared.accepted.answers.AcceptedAt.{AcceptedAt}
 use Rattle.nz_audit.specs.Leading.{is_up_in_first_view, IsOnlyLog}
 use Rattle.nz_audit.specs.Prefixes.{longest_from, prefixes_in, IsHistoryIn, AreAccepted}
-use Rattle.nz_audit.proofs.Found.{log_taken}
-use Rattle.nz_audit.proofs.Longest.{longest_append}
+use Rattle.nz_audit.proofs.SearchFinds.{log_taken}
+use Rattle.nz_audit.proofs.LongestPrefixes.{longest_append}
 
 -- ---- the replicas
 

@@ -39,11 +39,11 @@ use Rattle.nz_machine.specs.rules.Proxies.{of_fast, of_slow}
 use Rattle.nz_machine.specs.rules.Step.{is_for, envelope_if_for, envelope_for, accepted_envelope}
 use Rattle.nz_machine.specs.runs.Events.{id_at}
 use Rattle.nz_audit.specs.Sources.{about_message, about_envelope, about, flag_after, is_one, shows_answer, named_id, named_num}
-use Rattle.nz_audit.specs.declared.source.Source.{Source}
-use Rattle.nz_audit.specs.declared.noting.Noted.{Noted}
-use Rattle.nz_audit.specs.declared.noting.Noted.TheVariants as noted
+use Rattle.nz_audit.specs.declared.accepted.answers.Source.{Source}
+use Rattle.nz_audit.specs.declared.sources.notes.Noted.{Noted}
+use Rattle.nz_audit.specs.declared.sources.notes.Noted.TheVariants as noted
 use Rattle.nz_audit.specs.Noting.{is_open, noted_after_request, noted_by, source_if_answer, after_message, after_envelope}
-use Rattle.nz_audit.proofs.Hearing.{is_heard, is_received}
+use Rattle.nz_audit.proofs.HeardParcels.{is_heard, is_received}
 
 -- ---- the place of the byte
 
@@ -265,30 +265,30 @@ either_down : (down : Bool) (before after : Option Noted) → after ≡ before �
 either_down true before after e = refl
 either_down false before after e = e
 
-request_ignored : (w : Id → Bool) (f : ℕ) (source : Option Source) (quiet : Bool) (x : Id) (c n : ℕ) (from to : Actor) (m : Message)
+request_ignored : (w : Id → Bool) (f : ℕ) (source : Option Source) (silent : Bool) (x : Id) (c n : ℕ) (from to : Actor) (m : Message)
     (known : Option Noted) → Fits m → named_num (encode_of from to m) ≡ Some n → w (id_at c n) ≡ false → w x ≡ true
-    → after_message f source quiet x (Client c) m known ≡ known
-request_ignored w f source quiet x c n from to (Request b) known fits is other wanted = elim (cases_Bool (id_eq (id_at c b.num) x)) [
+    → after_message f source silent x (Client c) m known ≡ known
+request_ignored w f source silent x c n from to (Request b) known fits is other wanted = elim (cases_Bool (id_eq (id_at c b.num) x)) [
   | inl same ↦
       let num : b.num ≡ n = same_Some b.num n (sym (request_named from to b fits) ∙ is) in
       absurd (true_and_false (w x) wanted (ap w (sym (same_id (id_at c b.num) x same) ∙ ap (id_at c) num) ∙ other))
   | inr away ↦ ap (λ (t : Bool). cond t (noted_after_request f known) known) away
 ]
-request_ignored w f source quiet x c n from to _ known fits is other wanted = refl
+request_ignored w f source silent x c n from to _ known fits is other wanted = refl
 
 pub other_ignored : (w : Id → Bool) (p : Parcel) (c n : ℕ) → AreBytes p.frame → p.from ≡ Client c → named_num p.frame ≡ Some n → w (id_at c n) ≡ false
-    → (id : Id) → w id ≡ true → (f me : ℕ) (source : Option Source) (quiet down : Bool) (known : Option Noted)
-    → after_envelope f source quiet down id (accepted_envelope f (Proxy me) p) known ≡ known
-other_ignored w p c n bytes from is other id wanted f me source quiet down known = by_envelope (accepted_envelope f (Proxy me) p) refl
+    → (id : Id) → w id ≡ true → (f me : ℕ) (source : Option Source) (silent down : Bool) (known : Option Noted)
+    → after_envelope f source silent down id (accepted_envelope f (Proxy me) p) known ≡ known
+other_ignored w p c n bytes from is other id wanted f me source silent down known = by_envelope (accepted_envelope f (Proxy me) p) refl
   where
-    by_envelope : (o : Option Envelope) → accepted_envelope f (Proxy me) p ≡ o → after_envelope f source quiet down id o known ≡ known
+    by_envelope : (o : Option Envelope) → accepted_envelope f (Proxy me) p ≡ o → after_envelope f source silent down id o known ≡ known
     by_envelope None e = refl
     by_envelope (Some m) e =
         let heard = is_received f (Proxy me) p m e in
         let s = decode_takes p.frame m bytes (decoded_of (Proxy me) p m heard.heard) in
-        either_down down known (after_message f source quiet id m.from m.message known)
-        (ap (λ (a : Actor). after_message f source quiet id a m.message known) (heard.from ∙ from)
-        ∙ request_ignored w f source quiet id c n m.from m.to m.message known s.fit (ap named_num (sym s.spelled) ∙ is) other wanted)
+        either_down down known (after_message f source silent id m.from m.message known)
+        (ap (λ (a : Actor). after_message f source silent id a m.message known) (heard.from ∙ from)
+        ∙ request_ignored w f source silent id c n m.from m.to m.message known s.fit (ap named_num (sym s.spelled) ∙ is) other wanted)
 
 -- ---- a reply to a request that is not open
 
@@ -302,41 +302,41 @@ past_if_not_open None h = tt
 past_if_not_open (Some (noted.Open notes)) h = absurd cc
 past_if_not_open (Some (noted.Decided source)) h = tt
 
-past_noted : (quiet : Bool) (reply : Reply) (source : Option Source) (known : Option Noted) → IsPast known
-    → option_map (noted_by quiet reply source) known ≡ known
-past_noted quiet reply source None h = refl
-past_noted quiet reply source (Some (noted.Open notes)) h = absurd h
-past_noted quiet reply source (Some (noted.Decided s)) h = refl
+past_noted : (silent : Bool) (reply : Reply) (source : Option Source) (known : Option Noted) → IsPast known
+    → option_map (noted_by silent reply source) known ≡ known
+past_noted silent reply source None h = refl
+past_noted silent reply source (Some (noted.Open notes)) h = absurd h
+past_noted silent reply source (Some (noted.Decided s)) h = refl
 
-past_at : (b quiet : Bool) (reply : Reply) (source : Option Source) (own x : Id) (known : Id → Option Noted) → id_eq own x ≡ b → IsPast (known own)
-    → cond b (option_map (noted_by quiet reply source) (known x)) (known x) ≡ known x
-past_at true quiet reply source own x known e h =
-    past_noted quiet reply source (known x) (subst (λ (i : Id). IsPast (known i)) (same_id own x e) h)
-past_at false quiet reply source own x known e h = refl
+past_at : (b silent : Bool) (reply : Reply) (source : Option Source) (own x : Id) (known : Id → Option Noted) → id_eq own x ≡ b → IsPast (known own)
+    → cond b (option_map (noted_by silent reply source) (known x)) (known x) ≡ known x
+past_at true silent reply source own x known e h =
+    past_noted silent reply source (known x) (subst (λ (i : Id). IsPast (known i)) (same_id own x e) h)
+past_at false silent reply source own x known e h = refl
 
 -- what the frame names is not open
 abbrev AreNotOpen : List ℕ → (Id → Option Noted) → Type 0
 AreNotOpen bytes known = (id : Id) → named_id bytes ≡ Some id → IsPast (known id)
 
-past_message : (f : ℕ) (source : Option Source) (quiet : Bool) (x : Id) (k : ℕ) (from to : Actor) (m : Message) (known : Id → Option Noted) → Fits m
-    → AreNotOpen (encode_of from to m) known → after_message f source quiet x (Replica k) m (known x) ≡ known x
-past_message f source quiet x k from to (FastReply b) known fits h =
-    past_at (id_eq b.id x) quiet (of_fast k b) (source_if_answer source (of_fast k b)) b.id x known refl (h b.id (fast_named from to b fits))
-past_message f source quiet x k from to (SlowReply b) known fits h =
-    past_at (id_eq b.id x) quiet (of_slow k b) (source_if_answer source (of_slow k b)) b.id x known refl (h b.id (slow_named from to b fits))
-past_message f source quiet x k from to _ known fits h = refl
+past_message : (f : ℕ) (source : Option Source) (silent : Bool) (x : Id) (k : ℕ) (from to : Actor) (m : Message) (known : Id → Option Noted) → Fits m
+    → AreNotOpen (encode_of from to m) known → after_message f source silent x (Replica k) m (known x) ≡ known x
+past_message f source silent x k from to (FastReply b) known fits h =
+    past_at (id_eq b.id x) silent (of_fast k b) (source_if_answer source (of_fast k b)) b.id x known refl (h b.id (fast_named from to b fits))
+past_message f source silent x k from to (SlowReply b) known fits h =
+    past_at (id_eq b.id x) silent (of_slow k b) (source_if_answer source (of_slow k b)) b.id x known refl (h b.id (slow_named from to b fits))
+past_message f source silent x k from to _ known fits h = refl
 
 pub past_stays : (p : Parcel) (k : ℕ) (known : Id → Option Noted) → AreBytes p.frame → p.from ≡ Replica k → AreNotOpen p.frame known
-    → (f me : ℕ) (source : Option Source) (quiet down : Bool) (x : Id)
-    → after_envelope f source quiet down x (accepted_envelope f (Proxy me) p) (known x) ≡ known x
-past_stays p k known bytes from h f me source quiet down x = by_envelope (accepted_envelope f (Proxy me) p) refl
+    → (f me : ℕ) (source : Option Source) (silent down : Bool) (x : Id)
+    → after_envelope f source silent down x (accepted_envelope f (Proxy me) p) (known x) ≡ known x
+past_stays p k known bytes from h f me source silent down x = by_envelope (accepted_envelope f (Proxy me) p) refl
   where
-    by_envelope : (o : Option Envelope) → accepted_envelope f (Proxy me) p ≡ o → after_envelope f source quiet down x o (known x) ≡ known x
+    by_envelope : (o : Option Envelope) → accepted_envelope f (Proxy me) p ≡ o → after_envelope f source silent down x o (known x) ≡ known x
     by_envelope None e = refl
     by_envelope (Some m) e =
         let heard = is_received f (Proxy me) p m e in
         let s = decode_takes p.frame m bytes (decoded_of (Proxy me) p m heard.heard) in
         let not_open : AreNotOpen (encode_of m.from m.to m.message) known = subst (λ (l : List ℕ). AreNotOpen l known) s.spelled h in
-        either_down down (known x) (after_message f source quiet x m.from m.message (known x))
-        (ap (λ (a : Actor). after_message f source quiet x a m.message (known x)) (heard.from ∙ from)
-        ∙ past_message f source quiet x k m.from m.to m.message known s.fit not_open)
+        either_down down (known x) (after_message f source silent x m.from m.message (known x))
+        (ap (λ (a : Actor). after_message f source silent x a m.message (known x)) (heard.from ∙ from)
+        ∙ past_message f source silent x k m.from m.to m.message known s.fit not_open)

@@ -4,8 +4,8 @@ use Rattle.nz_machine.specs.declared.journal.Journal.{Journal}
 use Rattle.nz_machine.specs.journals.Journals.{group_in}
 use Rattle.nz_replica.specs.Models.{IsCore}
 use Rattle.nz_replay.specs.Runs.{run_up_to}
-use Rattle.nz_audit.specs.declared.replaying.Replayed.{Replayed}
-use Rattle.nz_audit.specs.declared.replaying.Replays.{Replays}
+use Rattle.nz_audit.specs.declared.prefixes.replays.Replayed.{Replayed}
+use Rattle.nz_audit.specs.declared.prefixes.replays.Replays.{Replays}
 
 -- What was replayed is the replica at its source.
 abbrev pub IsReplayed : Journal → Replayed → Type 0

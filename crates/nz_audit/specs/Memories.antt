@@ -8,9 +8,9 @@ use Rattle.nz_machine.specs.declared.reply.Reply.{Reply}
 use Rattle.nz_machine.specs.rules.State.{Group, Standing, Open, Decided}
 use Rattle.nz_machine.specs.rules.Quorums.{answer_in}
 use Rattle.nz_machine.specs.runs.History.{standing_after, source_of_reply, source_of_sender}
-use Rattle.nz_audit.specs.declared.source.Source.{Source}
-use Rattle.nz_audit.specs.declared.noting.Noted.{Noted}
-use Rattle.nz_audit.specs.declared.noting.Noted.TheVariants as noted
+use Rattle.nz_audit.specs.declared.accepted.answers.Source.{Source}
+use Rattle.nz_audit.specs.declared.sources.notes.Noted.{Noted}
+use Rattle.nz_audit.specs.declared.sources.notes.Noted.TheVariants as noted
 use Rattle.nz_audit.specs.Sources.{in_numbers}
 
 -- The source of a noted reply, if it has an answer.

@@ -16,10 +16,10 @@ use Rattle.nz_machine.specs.rules.Quorums.{Chosen, answer_in, decision, reply_eq
 use Rattle.nz_machine.specs.rules.Proxies.{of_fast, of_slow}
 use Rattle.nz_machine.specs.rules.Step.{accepted_envelope}
 use Rattle.nz_quorum.specs.Tallies.{IsOfCluster}
-use Rattle.nz_audit.specs.declared.source.Source.{Source}
-use Rattle.nz_audit.specs.declared.noting.Notes.{Notes}
-use Rattle.nz_audit.specs.declared.noting.Noted.{Noted}
-use Rattle.nz_audit.specs.declared.noting.Noted.TheVariants.{Open, Decided}
+use Rattle.nz_audit.specs.declared.accepted.answers.Source.{Source}
+use Rattle.nz_audit.specs.declared.sources.notes.Notes.{Notes}
+use Rattle.nz_audit.specs.declared.sources.notes.Noted.{Noted}
+use Rattle.nz_audit.specs.declared.sources.notes.Noted.TheVariants.{Open, Decided}
 
 -- No replies yet.
 abbrev pub first_notes : ℕ → Notes
@@ -50,12 +50,12 @@ abbrev pub noted_if_decided : Notes → Option (Option Source) → Noted
 noted_if_decided notes None = Open notes
 noted_if_decided notes (Some source) = Decided source
 
--- A reply to an open request is noted. It may decide, unless the proxy is quiet: one that decides answers its client.
+-- A reply to an open request is noted. It may decide, unless the proxy is silent: one that decides answers its client.
 abbrev pub noted_by : Bool → Reply → Option Source → Noted → Noted
-noted_by quiet reply source (Decided kept) = Decided kept
-noted_by quiet reply source (Open notes) =
+noted_by silent reply source (Decided kept) = Decided kept
+noted_by silent reply source (Open notes) =
     let now = with_source notes reply source in
-    if quiet then Open now else noted_if_decided now (decided_source now)
+    if silent then Open now else noted_if_decided now (decided_source now)
 
 -- A reply without an answer has no source.
 abbrev pub source_if_answer : Option Source → Reply → Option Source
@@ -78,7 +78,7 @@ IsSized f None = Unit {0}
 IsSized f (Some (Open notes)) = notes.tally.f ≡ f
 IsSized f (Some (Decided source)) = Unit {0}
 
--- ---- what becomes of it in an event; the source is that of the parcel that is delivered, and a quiet proxy sends nothing
+-- ---- what becomes of it in an event; the source is that of the parcel that is delivered, and a silent proxy sends nothing
 
 -- What is kept once the request was asked for.
 abbrev pub noted_after_request : ℕ → Option Noted → Option Noted
@@ -87,27 +87,27 @@ noted_after_request f (Some noted) = Some noted
 
 -- What is kept of a request after a message.
 abbrev pub after_message : ℕ → Option Source → Bool → Id → Actor → Message → Option Noted → Option Noted
-after_message f source quiet id (Client c) (Request b) known =
+after_message f source silent id (Client c) (Request b) known =
     if id_eq (record { client = c; num = b.num }) id then noted_after_request f known else known
-after_message f source quiet id (Replica r) (FastReply b) known =
-    if id_eq b.id id then option_map (noted_by quiet (of_fast r b) (source_if_answer source (of_fast r b))) known else known
-after_message f source quiet id (Replica r) (SlowReply b) known =
-    if id_eq b.id id then option_map (noted_by quiet (of_slow r b) (source_if_answer source (of_slow r b))) known else known
-after_message f source quiet id _ _ known = known
+after_message f source silent id (Replica r) (FastReply b) known =
+    if id_eq b.id id then option_map (noted_by silent (of_fast r b) (source_if_answer source (of_fast r b))) known else known
+after_message f source silent id (Replica r) (SlowReply b) known =
+    if id_eq b.id id then option_map (noted_by silent (of_slow r b) (source_if_answer source (of_slow r b))) known else known
+after_message f source silent id _ _ known = known
 
 -- A proxy that is down hears nothing.
 abbrev pub after_envelope : ℕ → Option Source → Bool → Bool → Id → Option Envelope → Option Noted → Option Noted
-after_envelope f source quiet down id None known = known
-after_envelope f source quiet down id (Some e) known = if down then known else after_message f source quiet id e.from e.message known
+after_envelope f source silent down id None known = known
+after_envelope f source silent down id (Some e) known = if down then known else after_message f source silent id e.from e.message known
 
 -- What is kept of a request after an event.
 abbrev pub after_event : ℕ → ℕ → Option Source → Bool → Bool → Id → Event → Option Noted → Option Noted
-after_event f me source quiet down id (Deliver p) known = after_envelope f source quiet down id (accepted_envelope f (Proxy me) p) known
-after_event f me source quiet down id (Cut kept p) known = known
-after_event f me source quiet down id (Tick clock) known = known
-after_event f me source quiet down id Alarm known = known
-after_event f me source quiet down id Crash known = None
-after_event f me source quiet down id (Restart nonce) known = if down then None else known
+after_event f me source silent down id (Deliver p) known = after_envelope f source silent down id (accepted_envelope f (Proxy me) p) known
+after_event f me source silent down id (Cut kept p) known = known
+after_event f me source silent down id (Tick clock) known = known
+after_event f me source silent down id Alarm known = known
+after_event f me source silent down id Crash known = None
+after_event f me source silent down id (Restart nonce) known = if down then None else known
 
 -- Whether the proxy is down after an event.
 abbrev pub down_after : Event → Bool → Bool

@@ -11,19 +11,18 @@ use Rattle.nz_machine.specs.declared.event.Event.{Event}
 use Rattle.nz_machine.specs.declared.event.Event.TheVariants.{Deliver, Cut, Tick, Alarm, Crash, Restart}
 use Rattle.nz_machine.specs.declared.event.Record.{Record}
 use Rattle.nz_machine.specs.declared.journal.Journal.{Journal}
-use Rattle.nz_machine.specs.declared.client_progress.Acceptance.{Acceptance}
 use Rattle.nz_machine.specs.journals.Journals.{group_in, run_in}
 use Rattle.nz_machine.specs.runs.Leading.{lead}
-use Rattle.nz_machine.specs.runs.Events.{ClientEvent, Sent}
-use Rattle.nz_machine.specs.runs.Events as events
+use Rattle.nz_machine.specs.declared.client_event.ClientEvent.{ClientEvent}
+use Rattle.nz_machine.specs.declared.client_event.ClientEvent.TheVariants.{Sent, Accepted}
 use Rattle.nz_machine.specs.runs.History.{log_at, cut_after, longer, history}
 use Rattle.nz_machine.specs.runs.World.{Has}
 use Rattle.nz_laws_commit.specs.Present.{AreUpWithin}
-use Rattle.nz_audit.specs.declared.source.Source.{Source}
-use Rattle.nz_audit.specs.declared.source.AcceptedAt.{AcceptedAt}
-use Rattle.nz_audit.specs.declared.source.AcceptedAnswer.{AcceptedAnswer}
-use Rattle.nz_audit.specs.declared.source.Counted.{Counted}
-use Rattle.nz_audit.specs.declared.searching.Search.{Search}
+use Rattle.nz_audit.specs.declared.accepted.answers.Source.{Source}
+use Rattle.nz_audit.specs.declared.accepted.answers.AcceptedAt.{AcceptedAt}
+use Rattle.nz_audit.specs.declared.accepted.answers.Traced.{Traced}
+use Rattle.nz_audit.specs.declared.accepted.answers.Counted.{Counted}
+use Rattle.nz_audit.specs.declared.prefixes.search.Search.{Search}
 use Rattle.nz_audit.specs.Sources.{about, delivered_source}
 use Rattle.nz_replay.specs.Runs.{run_up_to}
 use Rattle.nz_audit.specs.Cores.{AreReplayed}
@@ -31,20 +30,15 @@ use Rattle.nz_audit.specs.Leading.{RepliesIn}
 
 -- ---- accepted answers, with their sources
 
--- The answer that the record at this place accepts, if there is one.
-abbrev pub accepted_at : Option Acceptance → ℕ → ℕ → Option AcceptedAt
-accepted_at None place sent = None
-accepted_at (Some a) place sent = Some (record { place = place; id = a.id; sent = sent })
-
 -- One more comes last, if there is one.
 abbrev pub with_accepted : {X : Type 0} → List X → Option X → List X
 with_accepted accepted None = accepted
 with_accepted accepted (Some a) = accepted ++ a ∷ []
 
 -- An accepted answer with its source, if it has one.
-abbrev pub with_source : Option Source → AcceptedAt → Option AcceptedAnswer
+abbrev pub with_source : Option Source → AcceptedAt → Option Traced
 with_source None a = None
-with_source (Some source) a = Some (record { place = a.place; id = a.id; source = source; sent = a.sent })
+with_source (Some source) a = Some (record { accepted = a; source = source })
 
 -- The source of what a record delivers, which is the one at this place.
 abbrev pub source_by : Journal → ℕ → Option Record → Option Source
@@ -52,11 +46,11 @@ source_by journal place None = None
 source_by journal place (Some r) = delivered_source (group_in journal) (run_up_to journal place) r.event
 
 -- The accepted answer with the source of what was delivered.
-abbrev pub traced : Journal → AcceptedAt → Option AcceptedAnswer
+abbrev pub traced : Journal → AcceptedAt → Option Traced
 traced journal a = with_source (source_by journal a.place (slice_get journal.records a.place)) a
 
 -- Those of some accepted answers that have a source.
-abbrev pub all_traced : Journal → List AcceptedAt → List AcceptedAnswer
+abbrev pub all_traced : Journal → List AcceptedAt → List Traced
 all_traced journal answers = filter_map (traced journal) answers
 
 -- Whether it is an answer to the request.
@@ -78,8 +72,8 @@ pub record IsAccepted (journal : Journal) (a : AcceptedAt) : Type 0 where
   pub brings : (r : Record) → slice_get journal.records a.place ≡ Some r → Brings a.id r.event
 
 -- The prefix of an accepted answer: the log at its source, up to and with the entry of its request.
-abbrev pub prefix_for : Journal → AcceptedAnswer → List Entry
-prefix_for journal a = cut_after a.id (log_at (group_in journal) (Replica a.source.replica) (run_up_to journal a.source.records))
+abbrev pub prefix_for : Journal → Traced → List Entry
+prefix_for journal a = cut_after a.accepted.id (log_at (group_in journal) (Replica a.source.replica) (run_up_to journal a.source.records))
 
 -- The longest of the first list and these lists, the first of equally long ones.
 abbrev pub longest_from : List Entry → List (List Entry) → List Entry
@@ -90,27 +84,27 @@ longest_from best (P ∷ Ps) = longest_from (longer best P) Ps
 abbrev pub requests_sent : List ClientEvent → ℕ
 requests_sent [] = 0
 requests_sent (Sent id command ∷ E) = suc (requests_sent E)
-requests_sent (events.Accepted id answer path ∷ E) = requests_sent E
+requests_sent (Accepted id answer path ∷ E) = requests_sent E
 
 -- Their places rise, from the first number on, and are below the second.
-abbrev pub AreInOrder : ℕ → ℕ → List AcceptedAnswer → Type 0
+abbrev pub AreInOrder : ℕ → ℕ → List Traced → Type 0
 AreInOrder n end [] = n ≤ end
-AreInOrder n end (a ∷ xs) = (n ≤ a.place) × AreInOrder (suc a.place) end xs
+AreInOrder n end (a ∷ xs) = (n ≤ a.accepted.place) × AreInOrder (suc a.accepted.place) end xs
 
 -- The log has the prefix of the answer, up to and with the entry of its request.
-abbrev pub HasPrefix : Journal → AcceptedAnswer → List Entry → Type 0
-HasPrefix journal a log = cut_after a.id log ≡ prefix_for journal a
+abbrev pub HasPrefix : Journal → Traced → List Entry → Type 0
+HasPrefix journal a log = cut_after a.accepted.id log ≡ prefix_for journal a
 
 -- The source is one in the journal. The prefix has at most as many entries as requests were sent. It is the beginning
 -- of the log that the leader of the view of the source's replies leads with in the end.
-pub record IsWithin (journal : Journal) (a : AcceptedAnswer) : Type 0 where
+pub record IsWithin (journal : Journal) (a : Traced) : Type 0 where
   pub replica : a.source.replica < replica_count (group_in journal).f
   pub records : a.source.records ≤ length journal.records
-  pub sent : length (prefix_for journal a) ≤ a.sent
+  pub sent : length (prefix_for journal a) ≤ a.accepted.sent
   pub led : (v : ℕ) → RepliesIn v (run_up_to journal a.source.records) → HasPrefix journal a (lead (group_in journal) v (run_in journal))
 
 -- The history is the longest of the prefixes of these, which are in the order in which they were accepted.
-pub record GiveHistory (journal : Journal) (J : List Record) (accepted : List AcceptedAnswer) : Type 0 where
+pub record GiveHistory (journal : Journal) (J : List Record) (accepted : List Traced) : Type 0 where
   pub longest : history (group_in journal) J ≡ longest_from [] (map (prefix_for journal) accepted)
   pub places : AreInOrder 0 (length J) accepted
   pub within : AllByRecursion (IsWithin journal) accepted
@@ -134,7 +128,7 @@ pub record AreAccepted (journal : Journal) (J : List Record) (answers : List Acc
 
 -- Whether the second comes before the first: it has more entries, or as many and was accepted first.
 abbrev pub comes_first : Counted → Counted → Bool
-comes_first best next = nat_lt best.entries next.entries || ((best.entries == next.entries) && nat_lt next.accepted.place best.accepted.place)
+comes_first best next = nat_lt best.entries next.entries || ((best.entries == next.entries) && nat_lt next.answer.accepted.place best.answer.accepted.place)
 
 -- The one with more entries, of equally long ones the one that was accepted first.
 abbrev pub first_longest : Option Counted → Counted → Counted
@@ -147,21 +141,21 @@ is_shorter None sent = false
 is_shorter (Some b) sent = nat_lt sent b.entries
 
 -- The other prefix is shorter, or as long and accepted no earlier.
-abbrev pub IsNoLonger : Journal → Counted → AcceptedAnswer → Type 0
-IsNoLonger journal b a = (length (prefix_for journal a) < b.entries) ⊎ ((length (prefix_for journal a) ≡ b.entries) × (b.accepted.place ≤ a.place))
+abbrev pub IsNoLonger : Journal → Counted → Traced → Type 0
+IsNoLonger journal b a = (length (prefix_for journal a) < b.entries) ⊎ ((length (prefix_for journal a) ≡ b.entries) × (b.answer.accepted.place ≤ a.accepted.place))
 
 -- It is the longest of these prefixes, the first of equally long ones.
-pub record IsBest (journal : Journal) (done : List AcceptedAnswer) (b : Counted) : Type 0 where
-  pub counted : b.entries ≡ length (prefix_for journal b.accepted)
-  pub among : Has done b.accepted
+pub record IsBest (journal : Journal) (done : List Traced) (b : Counted) : Type 0 where
+  pub counted : b.entries ≡ length (prefix_for journal b.answer)
+  pub among : Has done b.answer
   pub beats : AllByRecursion (IsNoLonger journal b) done
 
 -- The same, where there is one: without one there are no prefixes.
-abbrev pub IsBestIfAny : Journal → List AcceptedAnswer → Option Counted → Type 0
+abbrev pub IsBestIfAny : Journal → List Traced → Option Counted → Type 0
 IsBestIfAny journal done None = done ≡ []
 IsBestIfAny journal done (Some b) = IsBest journal done b
 
 -- What a search has found among these.
-pub record IsFound (journal : Journal) (done : List AcceptedAnswer) (s : Search) : Type 0 where
+pub record IsFound (journal : Journal) (done : List Traced) (s : Search) : Type 0 where
   pub replays : AreReplayed journal s.replays
   pub best : IsBestIfAny journal done s.best

@@ -12,13 +12,13 @@ use Rattle.nz_machine.specs.journals.Journals.{group_in, run_in}
 use Rattle.nz_machine.specs.rules.State.{Group}
 use Rattle.nz_machine.specs.runs.World.{state_after, World}
 use Rattle.nz_machine.specs.runs.History.{parcel_eq, older_or, source}
-use Rattle.nz_audit.specs.declared.source.Source.{Source}
-use Rattle.nz_audit.specs.declared.noting.Noted.{Noted}
-use Rattle.nz_audit.specs.declared.proxy.ProxyNotes.{ProxyNotes}
-use Rattle.nz_audit.specs.declared.sending.ParcelKey.{ParcelKey}
-use Rattle.nz_audit.specs.declared.reading.Reading.{Reading}
+use Rattle.nz_audit.specs.declared.accepted.answers.Source.{Source}
+use Rattle.nz_audit.specs.declared.sources.notes.Noted.{Noted}
+use Rattle.nz_audit.specs.declared.sources.proxy.ProxyNotes.{ProxyNotes}
+use Rattle.nz_audit.specs.declared.sources.sendings.ParcelKey.{ParcelKey}
+use Rattle.nz_audit.specs.declared.sources.reading.Reading.{Reading}
 use Rattle.nz_audit.specs.Sources.{about, stands_for, kept_of, IsNoOther, source_delivered, delivered_source}
-use Rattle.nz_audit.specs.declared.source.AcceptedAt.{AcceptedAt}
+use Rattle.nz_audit.specs.declared.accepted.answers.AcceptedAt.{AcceptedAt}
 use Rattle.nz_audit.specs.Noting.{IsSized}
 use Rattle.nz_audit.specs.Memories.{memory}
 use Rattle.nz_replay.specs.Runs.{run_up_to}

@@ -20,8 +20,8 @@ use Rattle.nz_machine.specs.rules.State.{Group}
 use Rattle.nz_machine.specs.rules.Step.{envelope_for}
 use Rattle.nz_machine.specs.runs.Events.{id_at}
 use Rattle.nz_machine.specs.runs.History.{ReplySource, source, source_of_sender}
-use Rattle.nz_audit.specs.declared.source.Source.{Source}
-use Rattle.nz_audit.specs.declared.sending.ParcelKey.{ParcelKey}
+use Rattle.nz_audit.specs.declared.accepted.answers.Source.{Source}
+use Rattle.nz_audit.specs.declared.sources.sendings.ParcelKey.{ParcelKey}
 
 -- ---- the source of an answer
 

@@ -17,16 +17,18 @@ use Rattle.nz_machine.specs.declared.journal.Executed.{Executed}
 use Rattle.nz_machine.specs.rules.State.{Group}
 use Rattle.nz_machine.specs.rules.Replicas.{commands}
 use Rattle.nz_machine.specs.runs.World.{Has, World}
-use Rattle.nz_machine.specs.runs.Events.{ClientEvent, Sent, Accepted, events}
+use Rattle.nz_machine.specs.declared.client_event.ClientEvent.{ClientEvent}
+use Rattle.nz_machine.specs.declared.client_event.ClientEvent.TheVariants.{Sent}
+use Rattle.nz_machine.specs.runs.Events.{events}
 use Rattle.nz_machine.specs.runs.History.{history}
 use Rattle.nz_machine.specs.runs.OneHistory.{Lin}
 use Rattle.nz_machine.specs.journals.Journals.{executed_if_answered, executed_from, executed_entries}
 use Rattle.nz_laws_commit.proofs.Counts.{are_once}
-use Rattle.nz_text.specs.Text.{event_of, printed_of_run, text}
+use Rattle.nz_text.specs.Text.{printed_of_run, text}
 use Rattle.nz_check.specs.declared.limit.TheConstants.{MAX_PRINTED}
 use Rattle.nz_check.specs.declared.verdict.Verdict.TheVariants.{Yes}
 use Rattle.nz_check.specs.Checked.{commands_of, judged, checked}
-use Rattle.nz_check.specs.Exact.{client_event, entries_of, AreInForm, IsChecked}
+use Rattle.nz_check.specs.Exact.{entries_of, AreInForm, IsChecked}
 use Rattle.nz_check.proofs.Splits.{image_of_has, get_cut, take_cut}
 use Rattle.nz_check.proofs.Whole.{judged_of_short, yes_of_checked}
 use Rattle.nz_check.proofs.TextsOfRuns.{texts_are_read}
@@ -135,11 +137,6 @@ told_answers before (e ∷ rest) =
 
 -- ---- runs
 
-forth : (E : List ClientEvent) → map client_event (map event_of E) ≡ E
-forth [] = refl
-forth (Sent id command ∷ E) = ap (λ (l : List ClientEvent). Sent id command ∷ l) (forth E)
-forth (Accepted id answer path ∷ E) = ap (λ (l : List ClientEvent). Accepted id answer path ∷ l) (forth E)
-
 run_in_form : (g : Group) (J : List Record) → AreInForm (events g J)
 run_in_form g J = let t = are_once g J in record { sent = t.sent; accepted = t.accepted; in_order = t.in_order }
 
@@ -149,14 +146,13 @@ run_is_checked g J lin =
     let H = history g J in
     let same : executed_entries H ≡ told [] H = all_told H [] H refl in
     record {
-      in_form = subst AreInForm (sym (forth (events g J))) (run_in_form g J);
+      in_form = run_in_form g J;
       open_lines = refl;
       answers =
           ap (map (λ (x : Executed). x.answer)) same ∙ told_answers [] H
           ∙ ap replies (sym (told_commands [] H) ∙ ap commands_of (sym same));
       one_history =
-          subst (λ (E : List ClientEvent). Lin E (entries_of (executed_entries H))) (sym (forth (events g J)))
-          (subst (Lin (events g J)) (sym (told_entries [] H) ∙ ap entries_of (sym same)) (plain_lin (events g J) H lin));
+          subst (Lin (events g J)) (sym (told_entries [] H) ∙ ap entries_of (sym same)) (plain_lin (events g J) H lin);
     }
 
 pub run_accepted : (g : Group) (J : List Record) → World g J → Lin (events g J) (history g J) → length (text g J) ≤ MAX_PRINTED → checked (text g J) ≡ Yes

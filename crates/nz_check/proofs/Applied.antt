@@ -19,7 +19,7 @@ use Rattle.nz_machine.specs.rules.Quorums.{answer_eq}
 use Rattle.nz_machine.proofs.lists.ListParts.{take_next}
 use Rattle.nz_text.specs.declared.printed.Printed.{Printed}
 use Rattle.nz_check.specs.declared.events.Noted.{Noted}
-use Rattle.nz_check.specs.declared.events.Sent.{Sent}
+use Rattle.nz_check.specs.declared.events.SentRequest.{SentRequest}
 use Rattle.nz_check.specs.declared.verdict.Why.{Why}
 use Rattle.nz_check.specs.declared.verdict.Why.TheVariants.{Repeat, Unsent, Open, Order}
 use Rattle.nz_check.specs.declared.verdict.Why.TheVariants as why
@@ -48,7 +48,7 @@ module _ (p : Printed) (place : ℕ) (x : Executed) (there : slice_get p.history
   first_test place_in b h test =
       sym (is_first_entry p.history place x there) ∙ ap (λ (o : Option ℕ). option_eq nat_eq o (Some place)) (sym (h x.id)) ∙ test
 
-  pub sent_test : (noted : Noted) (s : Sent) → AreNoted p.history p.events noted → Some s ≡ get id_eq noted.sent x.id
+  pub sent_test : (noted : Noted) (s : SentRequest) → AreNoted p.history p.events noted → Some s ≡ get id_eq noted.sent x.id
       → is_sent_at p.events s.place x.command ≡ option_eq bytes_eq (command_sent x.id p.events) (Some x.command)
   sent_test noted s h held = command_is s.place x.id p.events x.command (sent_is p.history p.events x.id s (sym (h.each x.id) ∙ sym held)).at
 
@@ -58,7 +58,7 @@ module _ (p : Printed) (place : ℕ) (x : Executed) (there : slice_get p.history
       ap (λ (o : Option (List ℕ)). option_eq bytes_eq o (Some x.command))
       (no_command 0 x.id p.events (unsent_place p.history p.events x.id (sym (h.each x.id) ∙ sym none)))
 
-  pub reach_test : (noted : Noted) (s : Sent) → AreNoted p.history p.events noted → Some s ≡ get id_eq noted.sent x.id
+  pub reach_test : (noted : Noted) (s : SentRequest) → AreNoted p.history p.events noted → Some s ≡ get id_eq noted.sent x.id
       → nat_lt place s.reach ≡ not (list_all (λ id. has_executed id (take place p.history)) (accepted_before x.id p.events))
   reach_test noted s h held =
       ap (nat_lt place) (sent_is p.history p.events x.id s (sym (h.each x.id) ∙ sym held)).reach

@@ -1,5 +1,5 @@
 -- The events' tests are all false exactly where the events are in form and each answer is that of the history.
-use Rattle.std.proofs.Common.{◌≡◌, ℕ, true, false, List, [], ◌∷◌, ◌++◌, map, Option, Some, None, refl, sym, ap, subst, ◌∙◌, inl, inr}
+use Rattle.std.proofs.Common.{◌≡◌, ℕ, true, false, List, [], ◌∷◌, ◌++◌, Option, Some, None, refl, sym, ap, subst, ◌∙◌, inl, inr}
 use Rattle.std.specs.Prelude.{not, is_none}
 use Rattle.std.specs.List.{list_any}
 use Rattle.std.specs.Option.{option_eq}
@@ -10,70 +10,53 @@ use Rattle.nz_store.specs.declared.command.Answer.{Answer}
 use Rattle.nz_msg.specs.declared.message.Path.{Path}
 use Rattle.nz_machine.specs.rules.Quorums.{answer_eq}
 use Rattle.nz_machine.specs.runs.World.{Has}
-use Rattle.nz_machine.specs.runs.Events.{ClientEvent, Sent, Accepted}
+use Rattle.nz_machine.specs.declared.client_event.ClientEvent.{ClientEvent}
+use Rattle.nz_machine.specs.declared.client_event.ClientEvent.TheVariants.{Sent, Accepted}
 use Rattle.nz_machine.specs.runs.OneHistory.{Precedes}
-use Rattle.nz_text.specs.declared.printed.Event.{Event}
-use Rattle.nz_text.specs.declared.printed.Event.TheVariants.{Send, Accept}
 use Rattle.nz_text.specs.declared.printed.Printed.{Printed}
-use Rattle.nz_text.specs.Text.{event_of, accepts_it}
+use Rattle.nz_text.specs.Text.{accepts_it}
 use Rattle.nz_check.specs.declared.verdict.Why.TheVariants.{Repeat, Unsent, Missing}
 use Rattle.nz_check.specs.declared.verdict.Why.TheVariants as why
 use Rattle.nz_check.specs.Checked.{sends_it, answer_at, first_why, event_why}
-use Rattle.nz_check.specs.Exact.{client_event, AreInForm}
+use Rattle.nz_check.specs.Exact.{AreInForm}
 use Rattle.nz_check.proofs.Meanings.{answer_eq_self, same_answer, same_some, some_same, holds, lets, why_parts, why_none}
 use Rattle.nz_check.proofs.Lines.{EachFine}
-use Rattle.nz_check.proofs.Splits.{has_cut, cut_of_has, found_of_any, any_of_has, none_of_any, has_map, cut_after, precedes_cut}
-use Rattle.nz_check.proofs.Splits.{precedes_map, before_cut}
-
--- ---- events of a text and of the machine
-
-back : (e : Event) → event_of (client_event e) ≡ e
-back (Send id command) = refl
-back (Accept id answer path) = refl
-
-all_back : (E : List Event) → map event_of (map client_event E) ≡ E
-all_back [] = refl
-all_back (e ∷ E) = rw (back e) (ap (λ (l : List Event). e ∷ l) (all_back E))
-
-pub has_here : (E : List Event) (t : ClientEvent) → Has (map client_event E) t → Has E (event_of t)
-has_here E t h = subst (λ (l : List Event). Has l (event_of t)) (all_back E) (has_map event_of (map client_event E) t h)
-
-pub precedes_here : (E : List Event) (s t : ClientEvent) → Precedes (map client_event E) s t → Precedes E (event_of s) (event_of t)
-precedes_here E s t h = subst (λ (l : List Event). Precedes l (event_of s) (event_of t)) (all_back E) (precedes_map event_of (map client_event E) s t h)
+use Rattle.nz_check.proofs.Splits.{has_cut, cut_of_has, found_of_any, any_of_has, none_of_any, cut_after, precedes_cut}
+use Rattle.nz_check.proofs.Splits.{before_cut}
 
 -- ---- what the tests of an event find
 
 -- an event that sends the request
-pub record IsSend (id : Id) (e : Event) : Type 0 where
+pub record IsSend (id : Id) (e : ClientEvent) : Type 0 where
   pub command : List ℕ
-  pub is : e ≡ Send id command
+  pub is : e ≡ Sent id command
 
-pub send_of_test : (id : Id) (e : Event) → sends_it id e ≡ true → IsSend id e
-send_of_test id (Send other command) h = record { command = command; is = ap (λ (i : Id). Send i command) (same_id other id h) }
-send_of_test id (Accept other answer path) h = absurd (false≢true h)
+pub send_of_test : (id : Id) (e : ClientEvent) → sends_it id e ≡ true → IsSend id e
+send_of_test id (Sent other command) h = record { command = command; is = ap (λ (i : Id). Sent i command) (same_id other id h) }
+send_of_test id (Accepted other answer path) h = absurd (false≢true h)
 
 -- an event that accepts an answer to the request
-pub record IsAccept (id : Id) (e : Event) : Type 0 where
+pub record IsAccept (id : Id) (e : ClientEvent) : Type 0 where
   pub answer : Answer
   pub path : Path
-  pub is : e ≡ Accept id answer path
+  pub is : e ≡ Accepted id answer path
 
-pub accept_of_test : (id : Id) (e : Event) → accepts_it id e ≡ true → IsAccept id e
-accept_of_test id (Send other command) h = absurd (false≢true h)
-accept_of_test id (Accept other answer path) h =
-    record { answer = answer; path = path; is = ap (λ (i : Id). Accept i answer path) (same_id other id h) }
+pub accept_of_test : (id : Id) (e : ClientEvent) → accepts_it id e ≡ true → IsAccept id e
+accept_of_test id (Sent other command) h = absurd (false≢true h)
+accept_of_test id (Accepted other answer path) h =
+    record { answer = answer; path = path; is = ap (λ (i : Id). Accepted i answer path) (same_id other id h) }
 
 -- what is true of an acceptance with which nothing is wrong
-pub record IsFineAccept (p : Printed) (above : List Event) (id : Id) (answer : Answer) : Type 0 where
+pub record IsFineAccept (p : Printed) (above : List ClientEvent) (id : Id) (answer : Answer) : Type 0 where
   pub fresh : list_any (accepts_it id) above ≡ false
   pub sent : list_any (sends_it id) above ≡ true
   pub answered : answer_at id p.history ≡ Some answer
 
-pub fine_send : (p : Printed) (above : List Event) (id : Id) (command : List ℕ) → event_why p above (Send id command) ≡ None → list_any (sends_it id) above ≡ false
+pub fine_send : (p : Printed) (above : List ClientEvent) (id : Id) (command : List ℕ) → event_why p above (Sent id command) ≡ None → list_any (sends_it id) above ≡ false
 fine_send p above id command h = (why_parts (list_any (sends_it id) above) Repeat None h).0
 
-pub fine_accept : (p : Printed) (above : List Event) (id : Id) (answer : Answer) (path : Path)
-    → event_why p above (Accept id answer path) ≡ None → IsFineAccept p above id answer
+pub fine_accept : (p : Printed) (above : List ClientEvent) (id : Id) (answer : Answer) (path : Path)
+    → event_why p above (Accepted id answer path) ≡ None → IsFineAccept p above id answer
 fine_accept p above id answer path h =
     let found = answer_at id p.history in
     let last = first_why ((not (option_eq answer_eq found (Some answer)), why.Answer) ∷ []) in
@@ -89,8 +72,8 @@ fine_accept p above id answer path h =
       answered = same_some answer_eq same_answer found answer (holds (option_eq answer_eq found (Some answer)) d.0);
     }
 
-accept_is_fine : (p : Printed) (above : List Event) (id : Id) (answer : Answer) (path : Path)
-    → IsFineAccept p above id answer → event_why p above (Accept id answer path) ≡ None
+accept_is_fine : (p : Printed) (above : List ClientEvent) (id : Id) (answer : Answer) (path : Path)
+    → IsFineAccept p above id answer → event_why p above (Accepted id answer path) ≡ None
 accept_is_fine p above id answer path h =
     let found = answer_at id p.history in
     why_none (list_any (accepts_it id) above) Repeat _ h.fresh
@@ -102,77 +85,75 @@ accept_is_fine p above id answer path h =
 -- ---- in form, where nothing is wrong
 
 module _ (p : Printed) (fine : EachFine (event_why p) [] p.events) where
-  no_second : (id : Id) (x y : List ℕ) → ¬ Precedes (map client_event p.events) (Sent id x) (Sent id y)
+  no_second : (id : Id) (x y : List ℕ) → ¬ Precedes p.events (Sent id x) (Sent id y)
   no_second id x y h =
-      let t = cut_after p.events (Send id x) (Send id y) (precedes_here p.events (Sent id x) (Sent id y) h) in
-      false≢true (sym (fine_send p t.before id y (fine t.before t.after (Send id y) t.whole))
-      ∙ any_of_has (sends_it id) t.before (Send id x) t.first (id_eq_self id))
+      let t = cut_after p.events (Sent id x) (Sent id y) h in
+      false≢true (sym (fine_send p t.before id y (fine t.before t.after (Sent id y) t.whole))
+      ∙ any_of_has (sends_it id) t.before (Sent id x) t.first (id_eq_self id))
 
-  no_second_accept : (id : Id) (a b : Answer) (q r : Path) → ¬ Precedes (map client_event p.events) (Accepted id a q) (Accepted id b r)
+  no_second_accept : (id : Id) (a b : Answer) (q r : Path) → ¬ Precedes p.events (Accepted id a q) (Accepted id b r)
   no_second_accept id a b q r h =
-      let t = cut_after p.events (Accept id a q) (Accept id b r) (precedes_here p.events (Accepted id a q) (Accepted id b r) h) in
-      false≢true (sym (fine_accept p t.before id b r (fine t.before t.after (Accept id b r) t.whole)).fresh
-      ∙ any_of_has (accepts_it id) t.before (Accept id a q) t.first (id_eq_self id))
+      let t = cut_after p.events (Accepted id a q) (Accepted id b r) h in
+      false≢true (sym (fine_accept p t.before id b r (fine t.before t.after (Accepted id b r) t.whole)).fresh
+      ∙ any_of_has (accepts_it id) t.before (Accepted id a q) t.first (id_eq_self id))
 
-  sent_first : (id : Id) (a : Answer) (q : Path) → Has (map client_event p.events) (Accepted id a q)
-      → (command : List ℕ) × Precedes (map client_event p.events) (Sent id command) (Accepted id a q)
+  sent_first : (id : Id) (a : Answer) (q : Path) → Has p.events (Accepted id a q)
+      → (command : List ℕ) × Precedes p.events (Sent id command) (Accepted id a q)
   sent_first id a q h =
-      let t = cut_of_has p.events (Accept id a q) (has_here p.events (Accepted id a q) h) in
-      let sent = (fine_accept p t.before id a q (fine t.before t.after (Accept id a q) t.whole)).sent in
+      let t = cut_of_has p.events (Accepted id a q) h in
+      let sent = (fine_accept p t.before id a q (fine t.before t.after (Accepted id a q) t.whole)).sent in
       let s = found_of_any (sends_it id) t.before sent in
       let is = send_of_test id s.item s.passes in
       let there = subst (Has t.before) is.is s.there in
-      let here = subst (λ (l : List Event). Precedes l (Send id is.command) (Accept id a q)) (sym t.whole)
-      (precedes_cut t.before t.after (Send id is.command) (Accept id a q) there) in
-      (is.command, precedes_map client_event p.events (Send id is.command) (Accept id a q) here)
+      let here = subst (λ (l : List ClientEvent). Precedes l (Sent id is.command) (Accepted id a q)) (sym t.whole)
+      (precedes_cut t.before t.after (Sent id is.command) (Accepted id a q) there) in
+      (is.command, here)
 
-  pub fine_in_form : AreInForm (map client_event p.events)
+  pub fine_in_form : AreInForm p.events
   fine_in_form = record { sent = no_second; accepted = no_second_accept; in_order = sent_first }
 
-  pub fine_answered : (id : Id) (a : Answer) (q : Path) → Has (map client_event p.events) (Accepted id a q) → answer_at id p.history ≡ Some a
+  pub fine_answered : (id : Id) (a : Answer) (q : Path) → Has p.events (Accepted id a q) → answer_at id p.history ≡ Some a
   fine_answered id a q h =
-      let t = cut_of_has p.events (Accept id a q) (has_here p.events (Accepted id a q) h) in
-      (fine_accept p t.before id a q (fine t.before t.after (Accept id a q) t.whole)).answered
+      let t = cut_of_has p.events (Accepted id a q) h in
+      (fine_accept p t.before id a q (fine t.before t.after (Accepted id a q) t.whole)).answered
 
 -- ---- nothing is wrong, where they are in form
 
-module _ (p : Printed) (form : AreInForm (map client_event p.events))
-    (answered : (id : Id) (a : Answer) (q : Path) → Has p.events (Accept id a q) → answer_at id p.history ≡ Some a) where
+module _ (p : Printed) (form : AreInForm p.events)
+    (answered : (id : Id) (a : Answer) (q : Path) → Has p.events (Accepted id a q) → answer_at id p.history ≡ Some a) where
   -- none before a cut sends what the cut sends
-  pub no_send_above : (a b : List Event) (id : Id) (command : List ℕ) → p.events ≡ a ++ Send id command ∷ b → list_any (sends_it id) a ≡ false
+  pub no_send_above : (a b : List ClientEvent) (id : Id) (command : List ℕ) → p.events ≡ a ++ Sent id command ∷ b → list_any (sends_it id) a ≡ false
   no_send_above a b id command e = none_of_any (sends_it id) a (λ x there h.
       let is = send_of_test id x h in
-      let twice = subst (λ (l : List Event). Precedes l (Send id is.command) (Send id command)) (sym e)
-      (precedes_cut a b (Send id is.command) (Send id command) (subst (Has a) is.is there)) in
-      form.sent id is.command command (precedes_map client_event p.events (Send id is.command) (Send id command) twice))
+      let twice = subst (λ (l : List ClientEvent). Precedes l (Sent id is.command) (Sent id command)) (sym e)
+      (precedes_cut a b (Sent id is.command) (Sent id command) (subst (Has a) is.is there)) in
+      form.sent id is.command command twice)
 
-  no_accept_above : (a b : List Event) (id : Id) (answer : Answer) (path : Path) → p.events ≡ a ++ Accept id answer path ∷ b → list_any (accepts_it id) a ≡ false
+  no_accept_above : (a b : List ClientEvent) (id : Id) (answer : Answer) (path : Path) → p.events ≡ a ++ Accepted id answer path ∷ b → list_any (accepts_it id) a ≡ false
   no_accept_above a b id answer path e = none_of_any (accepts_it id) a (λ x there h.
       let is = accept_of_test id x h in
-      let twice = subst (λ (l : List Event). Precedes l (Accept id is.answer is.path) (Accept id answer path)) (sym e)
-      (precedes_cut a b (Accept id is.answer is.path) (Accept id answer path) (subst (Has a) is.is there)) in
-      form.accepted id is.answer answer is.path path
-      (precedes_map client_event p.events (Accept id is.answer is.path) (Accept id answer path) twice))
+      let twice = subst (λ (l : List ClientEvent). Precedes l (Accepted id is.answer is.path) (Accepted id answer path)) (sym e)
+      (precedes_cut a b (Accepted id is.answer is.path) (Accepted id answer path) (subst (Has a) is.is there)) in
+      form.accepted id is.answer answer is.path path twice)
 
-  send_above : (a b : List Event) (id : Id) (answer : Answer) (path : Path) → p.events ≡ a ++ Accept id answer path ∷ b → list_any (sends_it id) a ≡ true
+  send_above : (a b : List ClientEvent) (id : Id) (answer : Answer) (path : Path) → p.events ≡ a ++ Accepted id answer path ∷ b → list_any (sends_it id) a ≡ true
   send_above a b id answer path e =
-      let own = Accept id answer path in
-      let has = subst (λ (l : List Event). Has l own) (sym e) (has_cut a b own) in
-      let s = form.in_order id answer path (has_map client_event p.events own has) in
-      let order = precedes_here p.events (Sent id s.0) (Accepted id answer path) s.1 in
-      elim (before_cut a b (Send id s.0) own (subst (λ (l : List Event). Precedes l (Send id s.0) own) e order)) [
-        | inl before ↦ any_of_has (sends_it id) a (Send id s.0) before (id_eq_self id)
+      let own = Accepted id answer path in
+      let has = subst (λ (l : List ClientEvent). Has l own) (sym e) (has_cut a b own) in
+      let s = form.in_order id answer path has in
+      elim (before_cut a b (Sent id s.0) own (subst (λ (l : List ClientEvent). Precedes l (Sent id s.0) own) e s.1)) [
+        | inl before ↦ any_of_has (sends_it id) a (Sent id s.0) before (id_eq_self id)
         | inr twice ↦
             absurd (form.accepted id answer answer path path
-            (precedes_map client_event p.events own own (subst (λ (l : List Event). Precedes l own own) (sym e) twice)))
+            (subst (λ (l : List ClientEvent). Precedes l own own) (sym e) twice))
       ]
 
-  event_is_fine : (a b : List Event) (x : Event) → p.events ≡ a ++ x ∷ b → event_why p a x ≡ None
-  event_is_fine a b (Send id command) e = why_none (list_any (sends_it id) a) Repeat None (no_send_above a b id command e) refl
-  event_is_fine a b (Accept id answer path) e = accept_is_fine p a id answer path (record {
+  event_is_fine : (a b : List ClientEvent) (x : ClientEvent) → p.events ≡ a ++ x ∷ b → event_why p a x ≡ None
+  event_is_fine a b (Sent id command) e = why_none (list_any (sends_it id) a) Repeat None (no_send_above a b id command e) refl
+  event_is_fine a b (Accepted id answer path) e = accept_is_fine p a id answer path (record {
     fresh = no_accept_above a b id answer path e;
     sent = send_above a b id answer path e;
-    answered = answered id answer path (subst (λ (l : List Event). Has l (Accept id answer path)) (sym e) (has_cut a b (Accept id answer path)));
+    answered = answered id answer path (subst (λ (l : List ClientEvent). Has l (Accepted id answer path)) (sym e) (has_cut a b (Accepted id answer path)));
   })
 
   pub events_are_fine : EachFine (event_why p) [] p.events

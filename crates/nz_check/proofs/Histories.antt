@@ -23,20 +23,19 @@ use Rattle.nz_machine.specs.declared.journal.Executed.{Executed}
 use Rattle.nz_machine.specs.rules.Quorums.{answer_eq}
 use Rattle.nz_machine.specs.rules.Replicas.{commands}
 use Rattle.nz_machine.specs.runs.World.{Has}
-use Rattle.nz_machine.specs.runs.Events.{Sent, Accepted}
+use Rattle.nz_machine.specs.declared.client_event.ClientEvent.TheVariants.{Sent, Accepted}
 use Rattle.nz_machine.specs.runs.OneHistory.{Precedes, ComesBefore, IsAnswered, Lin}
-use Rattle.nz_text.specs.declared.printed.Event.{Event}
-use Rattle.nz_text.specs.declared.printed.Event.TheVariants.{Send, Accept}
+use Rattle.nz_machine.specs.declared.client_event.ClientEvent.{ClientEvent}
 use Rattle.nz_text.specs.declared.printed.Printed.{Printed}
 use Rattle.nz_check.specs.declared.verdict.Why.TheVariants.{Repeat, Unsent, Open, Order}
 use Rattle.nz_check.specs.declared.verdict.Why.TheVariants as why
 use Rattle.nz_check.specs.Checked.{sends_it, command_sent, accepted_before, has_executed, answer_at, commands_of, first_why, event_why, at_why, lacks_open}
-use Rattle.nz_check.specs.Exact.{client_event, entry_of, entries_of, AreInForm}
+use Rattle.nz_check.specs.Exact.{entry_of, entries_of, AreInForm}
 use Rattle.nz_check.proofs.Meanings.{same_bytes, bytes_eq_self, same_answer, answer_eq_self, same_some, some_same, holds, lets, why_parts, why_none}
 use Rattle.nz_check.proofs.Lines.{EachFine}
 use Rattle.nz_check.proofs.Splits.{has_cut, cut_of_has, any_of_has, none_of_any, all_at, all_of_each, has_map, image_of_has}
-use Rattle.nz_check.proofs.Splits.{cut_after, precedes_cut, precedes_map, get_cut, take_cut}
-use Rattle.nz_check.proofs.Forms.{has_here, precedes_here, send_of_test, fine_send, fine_answered}
+use Rattle.nz_check.proofs.Splits.{cut_after, precedes_cut, get_cut, take_cut}
+use Rattle.nz_check.proofs.Forms.{send_of_test, fine_send, fine_answered}
 
 -- ---- what the tests of an entry find
 
@@ -87,60 +86,60 @@ command_cases : (b : Bool) (c d : List ℕ) (o : Option (List ℕ)) → cond b (
 command_cases true c d o e = inl (refl, same_Some c d e)
 command_cases false c d o e = inr (refl, e)
 
-sent_has : (id : Id) (command : List ℕ) (E : List Event) → command_sent id E ≡ Some command → Has E (Send id command)
+sent_has : (id : Id) (command : List ℕ) (E : List ClientEvent) → command_sent id E ≡ Some command → Has E (Sent id command)
 sent_has id command [] e = absurd (none-some command e)
-sent_has id command (Send other d ∷ E) e = elim (command_cases (id_eq other id) d command (command_sent id E) e) [
-  | inl h ↦ inl (ap (λ (i : Id). Send i d) (same_id other id h.0) ∙ ap (Send id) h.1)
+sent_has id command (Sent other d ∷ E) e = elim (command_cases (id_eq other id) d command (command_sent id E) e) [
+  | inl h ↦ inl (ap (λ (i : Id). Sent i d) (same_id other id h.0) ∙ ap (Sent id) h.1)
   | inr h ↦ inr (sent_has id command E h.1)
 ]
-sent_has id command (Accept other answer path ∷ E) e = inr (sent_has id command E e)
+sent_has id command (Accepted other answer path ∷ E) e = inr (sent_has id command E e)
 
 -- where none above sends it, a send is the first one
-sent_at : (id : Id) (command : List ℕ) (a b : List Event) → list_any (sends_it id) a ≡ false → command_sent id (a ++ Send id command ∷ b) ≡ Some command
+sent_at : (id : Id) (command : List ℕ) (a b : List ClientEvent) → list_any (sends_it id) a ≡ false → command_sent id (a ++ Sent id command ∷ b) ≡ Some command
 sent_at id command [] b h = ap (λ (t : Bool). cond t (Some command) (command_sent id b)) (id_eq_self id)
-sent_at id command (Send other d ∷ a) b h =
+sent_at id command (Sent other d ∷ a) b h =
     let t = or_parts (id_eq other id) (list_any (sends_it id) a) h in
-    ap (λ (t : Bool). cond t (Some d) (command_sent id (a ++ Send id command ∷ b))) t.0 ∙ sent_at id command a b t.1
-sent_at id command (Accept other answer path ∷ a) b h = sent_at id command a b h
+    ap (λ (t : Bool). cond t (Some d) (command_sent id (a ++ Sent id command ∷ b))) t.0 ∙ sent_at id command a b t.1
+sent_at id command (Accepted other answer path ∷ a) b h = sent_at id command a b h
 
-event_id : Event → Id
-event_id (Send id command) = id
-event_id (Accept id answer path) = id
+event_id : ClientEvent → Id
+event_id (Sent id command) = id
+event_id (Accepted id answer path) = id
 
-own_send : (i id : Id) (d command : List ℕ) → Send i d ≡ Send id command → id_eq i id ≡ true
+own_send : (i id : Id) (d command : List ℕ) → Sent i d ≡ Sent id command → id_eq i id ≡ true
 unfolding event_id
 own_send i id d command e = ap (λ e. id_eq (event_id e) id) e ∙ id_eq_self id
 
-accept_is_no_send : (i id : Id) (x : Answer) (y : Path) (command : List ℕ) → Accept i x y ≡ Send id command → ⊥
+accept_is_no_send : (i id : Id) (x : Answer) (y : Path) (command : List ℕ) → Accepted i x y ≡ Sent id command → ⊥
 accept_is_no_send i id x y command e = absurd cc
 
-own_accept : (i j : Id) (x a : Answer) (y q : Path) → Accept i x y ≡ Accept j a q → i ≡ j
+own_accept : (i j : Id) (x a : Answer) (y q : Path) → Accepted i x y ≡ Accepted j a q → i ≡ j
 unfolding event_id
 own_accept i j x a y q e = ap event_id e
 
-accepted_there : (id : Id) (a b : List Event) (other : Id) (answer : Answer) (path : Path) → list_any (sends_it id) a ≡ false
-    → Has a (Accept other answer path) → Has (accepted_before id (a ++ b)) other
+accepted_there : (id : Id) (a b : List ClientEvent) (other : Id) (answer : Answer) (path : Path) → list_any (sends_it id) a ≡ false
+    → Has a (Accepted other answer path) → Has (accepted_before id (a ++ b)) other
 accepted_there id [] b other answer path h k = absurd k
-accepted_there id (Send i d ∷ a) b other answer path h (inl e) = absurd cc
-accepted_there id (Send i d ∷ a) b other answer path h (inr k) =
+accepted_there id (Sent i d ∷ a) b other answer path h (inl e) = absurd cc
+accepted_there id (Sent i d ∷ a) b other answer path h (inr k) =
     let t = or_parts (id_eq i id) (list_any (sends_it id) a) h in
     subst (λ (l : List Id). Has l other) (ap (λ (t : Bool). cond t [] (accepted_before id (a ++ b))) (sym t.0)) (accepted_there id a b other answer path t.1 k)
-accepted_there id (Accept i x y ∷ a) b other answer path h (inl e) = inl (own_accept i other x answer y path e)
-accepted_there id (Accept i x y ∷ a) b other answer path h (inr k) = inr (accepted_there id a b other answer path h k)
+accepted_there id (Accepted i x y ∷ a) b other answer path h (inl e) = inl (own_accept i other x answer y path e)
+accepted_there id (Accepted i x y ∷ a) b other answer path h (inr k) = inr (accepted_there id a b other answer path h k)
 
 -- an acceptance that is before the first send
-record IsAcceptedBefore (id other : Id) (E : List Event) : Type 0 where
+record IsAcceptedBefore (id other : Id) (E : List ClientEvent) : Type 0 where
   answer : Answer
   path : Path
-  before : (command : List ℕ) → Has E (Send id command) → Precedes E (Accept other answer path) (Send id command)
+  before : (command : List ℕ) → Has E (Sent id command) → Precedes E (Accepted other answer path) (Sent id command)
 
 before_cases : (b : Bool) (ids : List Id) (other : Id) → Has (cond b [] ids) other → (b ≡ false) × Has ids other
 before_cases true ids other h = absurd h
 before_cases false ids other h = (refl, h)
 
-accepted_precedes : (id other : Id) (E : List Event) → Has (accepted_before id E) other → IsAcceptedBefore id other E
+accepted_precedes : (id other : Id) (E : List ClientEvent) → Has (accepted_before id E) other → IsAcceptedBefore id other E
 accepted_precedes id other [] h = absurd h
-accepted_precedes id other (Send i d ∷ E) h =
+accepted_precedes id other (Sent i d ∷ E) h =
     let t = before_cases (id_eq i id) (accepted_before id E) other h in
     let s = accepted_precedes id other E t.1 in
     record {
@@ -148,12 +147,12 @@ accepted_precedes id other (Send i d ∷ E) h =
       path = s.path;
       before = λ command k. elim k [ inl e ↦ absurd (false≢true (sym t.0 ∙ own_send i id d command e)) | inr more ↦ inr (s.before command more) ];
     }
-accepted_precedes id other (Accept i x y ∷ E) (inl e) = record {
+accepted_precedes id other (Accepted i x y ∷ E) (inl e) = record {
   answer = x;
   path = y;
-  before = λ command k. elim k [ inl same ↦ absurd (accept_is_no_send i id x y command same) | inr more ↦ inl (ap (λ (i : Id). Accept i x y) e, more) ];
+  before = λ command k. elim k [ inl same ↦ absurd (accept_is_no_send i id x y command same) | inr more ↦ inl (ap (λ (i : Id). Accepted i x y) e, more) ];
 }
-accepted_precedes id other (Accept i x y ∷ E) (inr h) =
+accepted_precedes id other (Accepted i x y ∷ E) (inr h) =
     let s = accepted_precedes id other E h in
     record {
       answer = s.answer;
@@ -355,14 +354,14 @@ module _ (p : Printed) (events_fine : EachFine (event_why p) [] p.events) (fine 
   unfolding store_from
   fine_answers = answers_from [] p.history (λ a b x e. (entry_at a b x e).answer)
 
-  asked : (e : Entry) → Has (entries_of p.history) e → Has (map client_event p.events) (Sent (id_of e.key) e.command)
+  asked : (e : Entry) → Has (entries_of p.history) e → Has p.events (Sent (id_of e.key) e.command)
   asked e h =
       let i = image_of_has entry_of p.history e h in
       let t = cut_of_has p.history i.item i.there in
       let sent = sent_has i.item.id i.item.command p.events (entry_at t.before t.after i.item t.whole).sent in
-      subst (λ (e : Entry). Has (map client_event p.events) (Sent (id_of e.key) e.command)) i.is (has_map client_event p.events (Send i.item.id i.item.command) sent)
+      subst (λ (e : Entry). Has p.events (Sent (id_of e.key) e.command)) i.is sent
 
-  answered : (id : Id) (answer : Answer) (path : Path) → Has (map client_event p.events) (Accepted id answer path) → IsAnswered (entries_of p.history) id answer
+  answered : (id : Id) (answer : Answer) (path : Path) → Has p.events (Accepted id answer path) → IsAnswered (entries_of p.history) id answer
   answered id answer path h =
       let f = first_of_answer id p.history answer (fine_answered p events_fine id answer path h) in
       let t = f.first in
@@ -377,13 +376,13 @@ module _ (p : Printed) (events_fine : EachFine (event_why p) [] p.events) (fine 
         answered = ap (λ (l : List (List ℕ)). reply l (length t.before)) (commands_are p.history) ∙ said ∙ ap Some f.same;
       }
 
-  comes_before : (a b : Id) (answer : Answer) (path : Path) (command : List ℕ) → Precedes (map client_event p.events) (Accepted a answer path) (Sent b command)
+  comes_before : (a b : Id) (answer : Answer) (path : Path) (command : List ℕ) → Precedes p.events (Accepted a answer path) (Sent b command)
       → (x : Executed) → Has p.history x → x.id ≡ b → ComesBefore (entries_of p.history) a b
   comes_before a b answer path command h x there is =
-      let t = cut_after p.events (Accept a answer path) (Send b command) (precedes_here p.events (Accepted a answer path) (Sent b command) h) in
-      let none = fine_send p t.before b command (events_fine t.before t.after (Send b command) t.whole) in
-      let before = subst (λ (l : List Event). Has (accepted_before b l) a) (sym t.whole)
-      (accepted_there b t.before (Send b command ∷ t.after) a answer path none t.first) in
+      let t = cut_after p.events (Accepted a answer path) (Sent b command) h in
+      let none = fine_send p t.before b command (events_fine t.before t.after (Sent b command) t.whole) in
+      let before = subst (λ (l : List ClientEvent). Has (accepted_before b l) a) (sym t.whole)
+      (accepted_there b t.before (Sent b command ∷ t.after) a answer path none t.first) in
       let u = cut_of_has p.history x there in
       let own = entry_at u.before u.after x u.whole in
       let order = all_at (λ id. has_executed id u.before) (accepted_before x.id p.events) a own.order
@@ -398,13 +397,13 @@ module _ (p : Printed) (events_fine : EachFine (event_why p) [] p.events) (fine 
         in_order = w.within;
       }
 
-  in_order : (a b : Id) (answer : Answer) (path : Path) (command : List ℕ) → Precedes (map client_event p.events) (Accepted a answer path) (Sent b command)
+  in_order : (a b : Id) (answer : Answer) (path : Path) (command : List ℕ) → Precedes p.events (Accepted a answer path) (Sent b command)
       → (e : Entry) → Has (entries_of p.history) e → id_of e.key ≡ b → ComesBefore (entries_of p.history) a b
   in_order a b answer path command h e there is =
       let i = image_of_has entry_of p.history e there in
       comes_before a b answer path command h i.item i.there (ap (λ (e : Entry). id_of e.key) i.is ∙ is)
 
-  pub fine_history : Lin (map client_event p.events) (entries_of p.history)
+  pub fine_history : Lin p.events (entries_of p.history)
   fine_history = record {
     once = own_ids p.history (λ a b x e. (entry_at a b x e).fresh);
     asked = asked;
@@ -414,7 +413,7 @@ module _ (p : Printed) (events_fine : EachFine (event_why p) [] p.events) (fine 
 
 -- ---- nothing is wrong, where they are one history
 
-module _ (p : Printed) (lin : Lin (map client_event p.events) (entries_of p.history))
+module _ (p : Printed) (lin : Lin p.events (entries_of p.history))
     (answers : map (λ x. x.answer) p.history ≡ replies (commands_of p.history)) where
   answer_is : (a b : List Executed) (x : Executed) → p.history ≡ a ++ x ∷ b → answer_after (commands_of a) x.command ≡ x.answer
   answer_is a b x e =
@@ -429,9 +428,9 @@ module _ (p : Printed) (lin : Lin (map client_event p.events) (entries_of p.hist
       same_Some (answer_after (commands_of a) x.command) x.answer
       (sym said ∙ ap (λ (l : List Answer). slice_get l (length a)) (sym answers) ∙ told)
 
-  pub answer_told : (id : Id) (answer : Answer) (path : Path) → Has p.events (Accept id answer path) → answer_at id p.history ≡ Some answer
+  pub answer_told : (id : Id) (answer : Answer) (path : Path) → Has p.events (Accepted id answer path) → answer_at id p.history ≡ Some answer
   answer_told id answer path h =
-      let by = lin.answered id answer path (has_map client_event p.events (Accept id answer path) h) in
+      let by = lin.answered id answer path h in
       let t = first_of_place id p.history by.place by.place_is in
       let said : Some (answer_after (commands_of t.before) t.entry.command) ≡ Some answer =
       sym (reply_at t.before t.after t.entry) ∙ ap (λ (l : List Executed). reply (commands_of l) (length t.before)) (sym t.whole)
@@ -442,16 +441,16 @@ module _ (p : Printed) (lin : Lin (map client_event p.events) (entries_of p.hist
   fresh_at : (a b : List Executed) (x : Executed) → p.history ≡ a ++ x ∷ b → has_executed x.id a ≡ false
   fresh_at a b x e = apart x a b (subst (λ (l : List Executed). HaveOwnIds (keys_of (entries_of l))) e lin.once)
 
-  module _ (form : AreInForm (map client_event p.events)) (open_lines : lacks_open p ≡ false) where
+  module _ (form : AreInForm p.events) (open_lines : lacks_open p ≡ false) where
     sent_is : (x : Executed) → Has p.history x → command_sent x.id p.events ≡ Some x.command
     sent_is x h =
-        let sent = has_here p.events (Sent x.id x.command) (lin.asked (entry_of x) (has_map entry_of p.history x h)) in
-        let t = cut_of_has p.events (Send x.id x.command) sent in
+        let sent = lin.asked (entry_of x) (has_map entry_of p.history x h) in
+        let t = cut_of_has p.events (Sent x.id x.command) sent in
         let none = none_of_any (sends_it x.id) t.before (λ e there test.
         let is = send_of_test x.id e test in
-        let twice = subst (λ (l : List Event). Precedes l (Send x.id is.command) (Send x.id x.command)) (sym t.whole)
-        (precedes_cut t.before t.after (Send x.id is.command) (Send x.id x.command) (subst (Has t.before) is.is there)) in
-        form.sent x.id is.command x.command (precedes_map client_event p.events (Send x.id is.command) (Send x.id x.command) twice)) in
+        let twice = subst (λ (l : List ClientEvent). Precedes l (Sent x.id is.command) (Sent x.id x.command)) (sym t.whole)
+        (precedes_cut t.before t.after (Sent x.id is.command) (Sent x.id x.command) (subst (Has t.before) is.is there)) in
+        form.sent x.id is.command x.command twice) in
         ap (command_sent x.id) t.whole ∙ sent_at x.id x.command t.before t.after none
 
     order_is : (a b : List Executed) (x : Executed) → p.history ≡ a ++ x ∷ b
@@ -459,9 +458,9 @@ module _ (p : Printed) (lin : Lin (map client_event p.events) (entries_of p.hist
     order_is a b x e = all_of_each (λ id. has_executed id a) (accepted_before x.id p.events) (λ id there.
         let x_there = subst (λ (l : List Executed). Has l x) (sym e) (has_cut a b x) in
         let entry_there = has_map entry_of p.history x x_there in
-        let sent = has_here p.events (Sent x.id x.command) (lin.asked (entry_of x) entry_there) in
+        let sent = lin.asked (entry_of x) entry_there in
         let t = accepted_precedes x.id id p.events there in
-        let first = precedes_map client_event p.events (Accept id t.answer t.path) (Send x.id x.command) (t.before x.command sent) in
+        let first = t.before x.command sent in
         let s = lin.in_order id x.id t.answer t.path x.command first (entry_of x) entry_there refl in
         let own : place_of (entries_of p.history) x.id ≡ Some (length a) =
         ap (λ (l : List Executed). place_of (entries_of l) x.id) e ∙ place_at x.id a b x (fresh_at a b x e) refl in

@@ -14,10 +14,10 @@ use Rattle.nz_base.proofs.Names.{id_eq_self}
 use Rattle.nz_store.specs.declared.command.Answer.{Answer}
 use Rattle.nz_msg.specs.declared.message.Path.{Path}
 use Rattle.nz_machine.specs.declared.journal.Executed.{Executed}
-use Rattle.nz_text.specs.declared.printed.Event.{Event}
-use Rattle.nz_text.specs.declared.printed.Event.TheVariants.{Send, Accept}
+use Rattle.nz_machine.specs.declared.client_event.ClientEvent.{ClientEvent}
+use Rattle.nz_machine.specs.declared.client_event.ClientEvent.TheVariants.{Sent, Accepted}
 use Rattle.nz_text.specs.Text.{accepts_it}
-use Rattle.nz_check.specs.declared.events.Sent.{Sent}
+use Rattle.nz_check.specs.declared.events.SentRequest.{SentRequest}
 use Rattle.nz_check.specs.Checked.{sends_it, command_sent, accepted_before, has_executed, answer_at}
 use Rattle.nz_check.specs.Noting.{first_place, reach_of_place, reach_of, sent_place, is_sent_at, asks_where_there, accepted_ids, sent_of}
 
@@ -39,61 +39,61 @@ lt_max k a b = grind arith
 
 -- ---- where a request is sent
 
-pub place_there : (n : ℕ) (id : Id) (E : List Event) → is_some (sent_place n id E) ≡ list_any (sends_it id) E
+pub place_there : (n : ℕ) (id : Id) (E : List ClientEvent) → is_some (sent_place n id E) ≡ list_any (sends_it id) E
 place_there n id [] = refl
-place_there n id (Send other command ∷ E) = there (id_eq other id) n (sent_place (suc n) id E) (list_any (sends_it id) E) (place_there (suc n) id E)
-place_there n id (Accept other answer path ∷ E) = place_there (suc n) id E
+place_there n id (Sent other command ∷ E) = there (id_eq other id) n (sent_place (suc n) id E) (list_any (sends_it id) E) (place_there (suc n) id E)
+place_there n id (Accepted other answer path ∷ E) = place_there (suc n) id E
 
-pub none_there : (n : ℕ) (id : Id) (E : List Event) → list_any (sends_it id) E ≡ false → sent_place n id E ≡ None
+pub none_there : (n : ℕ) (id : Id) (E : List ClientEvent) → list_any (sends_it id) E ≡ false → sent_place n id E ≡ None
 none_there n id [] h = refl
-none_there n id (Send other command ∷ E) h =
+none_there n id (Sent other command ∷ E) h =
     let t = or_parts (id_eq other id) (list_any (sends_it id) E) h in
     ap (λ (b : Bool). cond b (Some n) (sent_place (suc n) id E)) t.0 ∙ none_there (suc n) id E t.1
-none_there n id (Accept other answer path ∷ E) h = none_there (suc n) id E h
+none_there n id (Accepted other answer path ∷ E) h = none_there (suc n) id E h
 
 -- what comes later changes nothing of a request that is sent
-place_kept : (n : ℕ) (id : Id) (E F : List Event) → list_any (sends_it id) E ≡ true → sent_place n id (E ++ F) ≡ sent_place n id E
+place_kept : (n : ℕ) (id : Id) (E F : List ClientEvent) → list_any (sends_it id) E ≡ true → sent_place n id (E ++ F) ≡ sent_place n id E
 place_kept n id [] F h = absurd (false≢true h)
-place_kept n id (Send other command ∷ E) F h = elim (cases_Bool (id_eq other id)) [
+place_kept n id (Sent other command ∷ E) F h = elim (cases_Bool (id_eq other id)) [
   | inl here ↦ rw here refl
   | inr away ↦ rw away (place_kept (suc n) id E F (rw away at h))
 ]
-place_kept n id (Accept other answer path ∷ E) F h = place_kept (suc n) id E F h
+place_kept n id (Accepted other answer path ∷ E) F h = place_kept (suc n) id E F h
 
-before_kept : (id : Id) (E F : List Event) → list_any (sends_it id) E ≡ true → accepted_before id (E ++ F) ≡ accepted_before id E
+before_kept : (id : Id) (E F : List ClientEvent) → list_any (sends_it id) E ≡ true → accepted_before id (E ++ F) ≡ accepted_before id E
 before_kept id [] F h = absurd (false≢true h)
-before_kept id (Send other command ∷ E) F h = elim (cases_Bool (id_eq other id)) [
+before_kept id (Sent other command ∷ E) F h = elim (cases_Bool (id_eq other id)) [
   | inl here ↦ rw here refl
   | inr away ↦ rw away (before_kept id E F (rw away at h))
 ]
-before_kept id (Accept other answer path ∷ E) F h = ap (λ (l : List Id). other ∷ l) (before_kept id E F h)
+before_kept id (Accepted other answer path ∷ E) F h = ap (λ (l : List Id). other ∷ l) (before_kept id E F h)
 
 -- a request that was not sent before is sent now
-place_now : (n : ℕ) (id : Id) (command : List ℕ) (E : List Event) → list_any (sends_it id) E ≡ false
-    → sent_place n id (E ++ Send id command ∷ []) ≡ Some (n + length E)
+place_now : (n : ℕ) (id : Id) (command : List ℕ) (E : List ClientEvent) → list_any (sends_it id) E ≡ false
+    → sent_place n id (E ++ Sent id command ∷ []) ≡ Some (n + length E)
 place_now n id command [] h = ap (λ (b : Bool). cond b (Some n) None) (id_eq_self id) ∙ ap Some (grind arith)
-place_now n id command (Send other d ∷ E) h =
+place_now n id command (Sent other d ∷ E) h =
     let t = or_parts (id_eq other id) (list_any (sends_it id) E) h in
-    ap (λ (b : Bool). cond b (Some n) (sent_place (suc n) id (E ++ Send id command ∷ []))) t.0 ∙ place_now (suc n) id command E t.1 ∙ ap Some (grind arith)
-place_now n id command (Accept other answer path ∷ E) h = place_now (suc n) id command E h ∙ ap Some (grind arith)
+    ap (λ (b : Bool). cond b (Some n) (sent_place (suc n) id (E ++ Sent id command ∷ []))) t.0 ∙ place_now (suc n) id command E t.1 ∙ ap Some (grind arith)
+place_now n id command (Accepted other answer path ∷ E) h = place_now (suc n) id command E h ∙ ap Some (grind arith)
 
-before_now : (id : Id) (command : List ℕ) (E : List Event) → list_any (sends_it id) E ≡ false
-    → accepted_before id (E ++ Send id command ∷ []) ≡ accepted_ids E
+before_now : (id : Id) (command : List ℕ) (E : List ClientEvent) → list_any (sends_it id) E ≡ false
+    → accepted_before id (E ++ Sent id command ∷ []) ≡ accepted_ids E
 before_now id command [] h = ap (λ (b : Bool). cond b [] []) (id_eq_self id)
-before_now id command (Send other d ∷ E) h =
+before_now id command (Sent other d ∷ E) h =
     let t = or_parts (id_eq other id) (list_any (sends_it id) E) h in
-    ap (λ (b : Bool). cond b [] (accepted_before id (E ++ Send id command ∷ []))) t.0 ∙ before_now id command E t.1
-before_now id command (Accept other answer path ∷ E) h = ap (λ (l : List Id). other ∷ l) (before_now id command E h)
+    ap (λ (b : Bool). cond b [] (accepted_before id (E ++ Sent id command ∷ []))) t.0 ∙ before_now id command E t.1
+before_now id command (Accepted other answer path ∷ E) h = ap (λ (l : List Id). other ∷ l) (before_now id command E h)
 
-pub ids_with_send : (id : Id) (command : List ℕ) (E : List Event) → accepted_ids (E ++ Send id command ∷ []) ≡ accepted_ids E
+pub ids_with_send : (id : Id) (command : List ℕ) (E : List ClientEvent) → accepted_ids (E ++ Sent id command ∷ []) ≡ accepted_ids E
 ids_with_send id command [] = refl
-ids_with_send id command (Send other d ∷ E) = ids_with_send id command E
-ids_with_send id command (Accept other answer path ∷ E) = ap (λ (l : List Id). other ∷ l) (ids_with_send id command E)
+ids_with_send id command (Sent other d ∷ E) = ids_with_send id command E
+ids_with_send id command (Accepted other answer path ∷ E) = ap (λ (l : List Id). other ∷ l) (ids_with_send id command E)
 
-pub ids_with_accept : (id : Id) (answer : Answer) (path : Path) (E : List Event) → accepted_ids (E ++ Accept id answer path ∷ []) ≡ accepted_ids E ++ id ∷ []
+pub ids_with_accept : (id : Id) (answer : Answer) (path : Path) (E : List ClientEvent) → accepted_ids (E ++ Accepted id answer path ∷ []) ≡ accepted_ids E ++ id ∷ []
 ids_with_accept id answer path [] = refl
-ids_with_accept id answer path (Send other d ∷ E) = ids_with_accept id answer path E
-ids_with_accept id answer path (Accept other a p ∷ E) = ap (λ (l : List Id). other ∷ l) (ids_with_accept id answer path E)
+ids_with_accept id answer path (Sent other d ∷ E) = ids_with_accept id answer path E
+ids_with_accept id answer path (Accepted other a p ∷ E) = ap (λ (l : List Id). other ∷ l) (ids_with_accept id answer path E)
 
 -- ---- where a request is in the history
 
@@ -224,10 +224,10 @@ is_first_entry H k x at =
 
 -- ---- the command of a request
 
-command_found : (n m : ℕ) (id : Id) (E : List Event) (command : List ℕ) → sent_place n id E ≡ Some m
+command_found : (n m : ℕ) (id : Id) (E : List ClientEvent) (command : List ℕ) → sent_place n id E ≡ Some m
     → (k : ℕ) × ((m ≡ n + k) × (asks_where_there command (slice_get E k) ≡ option_eq bytes_eq (command_sent id E) (Some command)))
 command_found n m id [] command e = absurd (none-some m e)
-command_found n m id (Send other d ∷ E) command e = elim (cases_Bool (id_eq other id)) [
+command_found n m id (Sent other d ∷ E) command e = elim (cases_Bool (id_eq other id)) [
   | inl here ↦
       let same : n ≡ m = same_Some n m (sym (ap (λ (b : Bool). cond b (Some n) (sent_place (suc n) id E)) here) ∙ e) in
       (0, (omega (arith, same), ap (λ (b : Bool). option_eq bytes_eq (cond b (Some d) (command_sent id E)) (Some command)) (sym here)))
@@ -236,38 +236,38 @@ command_found n m id (Send other d ∷ E) command e = elim (cases_Bool (id_eq ot
       let is = t.1.0 in
       (suc t.0, (omega (arith, is), t.1.1 ∙ ap (λ (b : Bool). option_eq bytes_eq (cond b (Some d) (command_sent id E)) (Some command)) (sym away)))
 ]
-command_found n m id (Accept other answer path ∷ E) command e =
+command_found n m id (Accepted other answer path ∷ E) command e =
     let t = command_found (suc n) m id E command e in
     let is = t.1.0 in
     (suc t.0, (omega (arith, is), t.1.1))
 
-pub command_is : (m : ℕ) (id : Id) (E : List Event) (command : List ℕ) → sent_place 0 id E ≡ Some m
+pub command_is : (m : ℕ) (id : Id) (E : List ClientEvent) (command : List ℕ) → sent_place 0 id E ≡ Some m
     → is_sent_at E m command ≡ option_eq bytes_eq (command_sent id E) (Some command)
 command_is m id E command e =
     let t = command_found 0 m id E command e in
     let is : m ≡ t.0 = let sum = t.1.0 in omega (arith, sum) in
     ap (λ (k : ℕ). asks_where_there command (slice_get E k)) is ∙ t.1.1
 
-pub no_command : (n : ℕ) (id : Id) (E : List Event) → sent_place n id E ≡ None → command_sent id E ≡ None
+pub no_command : (n : ℕ) (id : Id) (E : List ClientEvent) → sent_place n id E ≡ None → command_sent id E ≡ None
 no_command n id [] e = refl
-no_command n id (Send other d ∷ E) e = elim (cases_Bool (id_eq other id)) [
+no_command n id (Sent other d ∷ E) e = elim (cases_Bool (id_eq other id)) [
   | inl here ↦ absurd (none-some n (sym e ∙ ap (λ (b : Bool). cond b (Some n) (sent_place (suc n) id E)) here))
   | inr away ↦
       ap (λ (b : Bool). cond b (Some d) (command_sent id E)) away
       ∙ no_command (suc n) id E (sym (ap (λ (b : Bool). cond b (Some n) (sent_place (suc n) id E)) away) ∙ e)
 ]
-no_command n id (Accept other answer path ∷ E) e = no_command (suc n) id E e
+no_command n id (Accepted other answer path ∷ E) e = no_command (suc n) id E e
 
 -- ---- what is noted of a request
 
-sent_from : List Executed → List Id → Bool → Option ℕ → Option Sent
+sent_from : List Executed → List Id → Bool → Option ℕ → Option SentRequest
 sent_from H ids accepted place = option_map (λ place. record { place = place; reach = reach_of H ids; accepted = accepted }) place
 
 or_nothing : (b c : Bool) → c ≡ false → (b || (c || false)) ≡ b
 or_nothing true c h = refl
 or_nothing false c h = rw h refl
 
-pub sent_kept : (H : List Executed) (E : List Event) (e : Event) (i : Id) → sends_it i e ≡ false → accepts_it i e ≡ false
+pub sent_kept : (H : List Executed) (E : List ClientEvent) (e : ClientEvent) (i : Id) → sends_it i e ≡ false → accepts_it i e ≡ false
     → sent_of H (E ++ e ∷ []) i ≡ sent_of H E i
 unfolding sent_from
 sent_kept H E e i send accept = elim (cases_Bool (list_any (sends_it i) E)) [
@@ -282,40 +282,40 @@ sent_kept H E e i send accept = elim (cases_Bool (list_any (sends_it i) E)) [
       ∙ sym (ap (sent_from H (accepted_before i E) (list_any (accepts_it i) E)) (none_there 0 i E unsent))
 ]
 
-pub sent_now : (H : List Executed) (E : List Event) (id : Id) (command : List ℕ) → list_any (sends_it id) E ≡ false → list_any (accepts_it id) E ≡ false
-    → sent_of H (E ++ Send id command ∷ []) id ≡ Some (record { place = length E; reach = reach_of H (accepted_ids E); accepted = false })
+pub sent_now : (H : List Executed) (E : List ClientEvent) (id : Id) (command : List ℕ) → list_any (sends_it id) E ≡ false → list_any (accepts_it id) E ≡ false
+    → sent_of H (E ++ Sent id command ∷ []) id ≡ Some (record { place = length E; reach = reach_of H (accepted_ids E); accepted = false })
 unfolding sent_from
 sent_now H E id command send accept =
-    ap (sent_from H (accepted_before id (E ++ Send id command ∷ [])) (list_any (accepts_it id) (E ++ Send id command ∷ [])))
+    ap (sent_from H (accepted_before id (E ++ Sent id command ∷ [])) (list_any (accepts_it id) (E ++ Sent id command ∷ [])))
     (place_now 0 id command E send ∙ ap Some (grind arith))
-    ∙ ap (λ (l : List Id). sent_from H l (list_any (accepts_it id) (E ++ Send id command ∷ [])) (Some (length E))) (before_now id command E send)
+    ∙ ap (λ (l : List Id). sent_from H l (list_any (accepts_it id) (E ++ Sent id command ∷ [])) (Some (length E))) (before_now id command E send)
     ∙ ap (λ (b : Bool). sent_from H (accepted_ids E) b (Some (length E)))
-    (list_any-append (accepts_it id) E (Send id command ∷ []) ∙ or_nothing (list_any (accepts_it id) E) false refl ∙ accept)
+    (list_any-append (accepts_it id) E (Sent id command ∷ []) ∙ or_nothing (list_any (accepts_it id) E) false refl ∙ accept)
 
-place_some : (n : ℕ) (id : Id) (E : List Event) (m : ℕ) → sent_place n id E ≡ Some m → list_any (sends_it id) E ≡ true
+place_some : (n : ℕ) (id : Id) (E : List ClientEvent) (m : ℕ) → sent_place n id E ≡ Some m → list_any (sends_it id) E ≡ true
 place_some n id E m e = sym (place_there n id E) ∙ ap is_some e
 
 -- what is noted comes from a place
-pub record IsSentFrom (H : List Executed) (E : List Event) (id : Id) (s : Sent) : Type 0 where
+pub record IsSentFrom (H : List Executed) (E : List ClientEvent) (id : Id) (s : SentRequest) : Type 0 where
   pub at : sent_place 0 id E ≡ Some s.place
   pub reach : s.reach ≡ reach_of H (accepted_before id E)
   pub accepted : s.accepted ≡ list_any (accepts_it id) E
   pub sent : list_any (sends_it id) E ≡ true
 
-from_place : (H : List Executed) (E : List Event) (id : Id) (s : Sent) (o : Option ℕ) → sent_place 0 id E ≡ o
+from_place : (H : List Executed) (E : List ClientEvent) (id : Id) (s : SentRequest) (o : Option ℕ) → sent_place 0 id E ≡ o
     → sent_from H (accepted_before id E) (list_any (accepts_it id) E) o ≡ Some s → IsSentFrom H E id s
 unfolding sent_from
 from_place H E id s None at e = absurd (none-some s e)
 from_place H E id s (Some m) at e =
     let same = same_Some _ s e in
     record {
-      at = at ∙ ap (λ (s : Sent). Some s.place) same;
-      reach = sym (ap (λ (s : Sent). s.reach) same);
-      accepted = sym (ap (λ (s : Sent). s.accepted) same);
+      at = at ∙ ap (λ (s : SentRequest). Some s.place) same;
+      reach = sym (ap (λ (s : SentRequest). s.reach) same);
+      accepted = sym (ap (λ (s : SentRequest). s.accepted) same);
       sent = place_some 0 id E m at;
     }
 
-pub sent_is : (H : List Executed) (E : List Event) (id : Id) (s : Sent) → sent_of H E id ≡ Some s → IsSentFrom H E id s
+pub sent_is : (H : List Executed) (E : List ClientEvent) (id : Id) (s : SentRequest) → sent_of H E id ≡ Some s → IsSentFrom H E id s
 unfolding sent_from
 sent_is H E id s e = from_place H E id s (sent_place 0 id E) refl e
 
@@ -324,27 +324,27 @@ unfolding sent_from
 nowhere H ids accepted None e = refl
 nowhere H ids accepted (Some m) e = absurd (none-some (record { place = m; reach = reach_of H ids; accepted = accepted }) (sym e))
 
-pub unsent_is : (H : List Executed) (E : List Event) (id : Id) → sent_of H E id ≡ None → list_any (sends_it id) E ≡ false
+pub unsent_is : (H : List Executed) (E : List ClientEvent) (id : Id) → sent_of H E id ≡ None → list_any (sends_it id) E ≡ false
 unfolding sent_from
 unsent_is H E id e = sym (place_there 0 id E) ∙ nowhere H (accepted_before id E) (list_any (accepts_it id) E) (sent_place 0 id E) e
 
-pub sent_accepted : (H : List Executed) (E : List Event) (id : Id) (answer : Answer) (path : Path) (s : Sent) → sent_of H E id ≡ Some s
-    → sent_of H (E ++ Accept id answer path ∷ []) id ≡ Some (record { place = s.place; reach = s.reach; accepted = true })
+pub sent_accepted : (H : List Executed) (E : List ClientEvent) (id : Id) (answer : Answer) (path : Path) (s : SentRequest) → sent_of H E id ≡ Some s
+    → sent_of H (E ++ Accepted id answer path ∷ []) id ≡ Some (record { place = s.place; reach = s.reach; accepted = true })
 unfolding sent_from
 sent_accepted H E id answer path s e =
     let t = sent_is H E id s e in
-    let own = Accept id answer path ∷ [] in
+    let own = Accepted id answer path ∷ [] in
     ap (sent_from H (accepted_before id (E ++ own)) (list_any (accepts_it id) (E ++ own))) (place_kept 0 id E own t.sent ∙ t.at)
     ∙ ap (λ (l : List Id). sent_from H l (list_any (accepts_it id) (E ++ own)) (Some s.place)) (before_kept id E own t.sent)
     ∙ ap (λ (b : Bool). sent_from H (accepted_before id E) b (Some s.place))
     (list_any-append (accepts_it id) E own ∙ or_right (list_any (accepts_it id) E) (id_eq id id || false) (or_left (id_eq id id) false (id_eq_self id)))
     ∙ ap (λ (n : ℕ). Some (record { place = s.place; reach = n; accepted = true })) (sym t.reach)
 
-pub sent_test : (H : List Executed) (E : List Event) (id : Id) (o : Option Sent) → sent_of H E id ≡ o → is_some o ≡ true → list_any (sends_it id) E ≡ true
+pub sent_test : (H : List Executed) (E : List ClientEvent) (id : Id) (o : Option SentRequest) → sent_of H E id ≡ o → is_some o ≡ true → list_any (sends_it id) E ≡ true
 sent_test H E id None e h = absurd (false≢true h)
 sent_test H E id (Some s) e h = (sent_is H E id s e).sent
 
-pub unsent_test : (H : List Executed) (E : List Event) (id : Id) (o : Option Sent) → sent_of H E id ≡ o → is_some o ≡ false → list_any (sends_it id) E ≡ false
+pub unsent_test : (H : List Executed) (E : List ClientEvent) (id : Id) (o : Option SentRequest) → sent_of H E id ≡ o → is_some o ≡ false → list_any (sends_it id) E ≡ false
 unsent_test H E id None e h = unsent_is H E id e
 unsent_test H E id (Some s) e h = absurd (false≢true (sym h))
 
@@ -352,5 +352,5 @@ none_of : (o : Option ℕ) → is_some o ≡ false → o ≡ None
 none_of None h = refl
 none_of (Some m) h = absurd (false≢true (sym h))
 
-pub unsent_place : (H : List Executed) (E : List Event) (id : Id) → sent_of H E id ≡ None → sent_place 0 id E ≡ None
+pub unsent_place : (H : List Executed) (E : List ClientEvent) (id : Id) → sent_of H E id ≡ None → sent_place 0 id E ≡ None
 unsent_place H E id e = none_of (sent_place 0 id E) (place_there 0 id E ∙ unsent_is H E id e)

@@ -8,12 +8,12 @@ use Rattle.indexmap.specs.IndexMap.{get}
 use Rattle.nz_base.specs.Key.{id_eq}
 use Rattle.nz_base.specs.declared.key.Id.{Id}
 use Rattle.nz_machine.specs.declared.journal.Executed.{Executed}
-use Rattle.nz_text.specs.declared.printed.Event.{Event}
-use Rattle.nz_text.specs.declared.printed.Event.TheVariants.{Send}
+use Rattle.nz_machine.specs.declared.client_event.ClientEvent.{ClientEvent}
+use Rattle.nz_machine.specs.declared.client_event.ClientEvent.TheVariants.{Sent}
 use Rattle.nz_text.specs.declared.printed.Printed.{Printed}
 use Rattle.nz_text.specs.Text.{accepts_it, open_in, unanswered_in}
 use Rattle.nz_check.specs.declared.events.Noted.{Noted}
-use Rattle.nz_check.specs.declared.events.Sent.{Sent}
+use Rattle.nz_check.specs.declared.events.SentRequest.{SentRequest}
 use Rattle.nz_check.specs.declared.verdict.Why.TheVariants.{Open}
 use Rattle.nz_check.specs.declared.verdict.Verdict.{Verdict}
 use Rattle.nz_check.specs.declared.verdict.Verdict.TheVariants.{No}
@@ -54,20 +54,20 @@ open_wrong p ids U i n place d r answer lt is same test bad inv =
 -- ---- the requests without acceptance
 
 -- A request whose answer was accepted is not among those that are open.
-pub closed : (H : List Executed) (E : List Event) (noted : Noted) (e : Event) (id : Id) (command : List ℕ) (s : Sent) → AreNoted H E noted
-    → e ≡ Send id command → Some s ≡ get id_eq noted.sent id → s.accepted ≡ true → open_in E e ≡ []
+pub closed : (H : List Executed) (E : List ClientEvent) (noted : Noted) (e : ClientEvent) (id : Id) (command : List ℕ) (s : SentRequest) → AreNoted H E noted
+    → e ≡ Sent id command → Some s ≡ get id_eq noted.sent id → s.accepted ≡ true → open_in E e ≡ []
 closed H E noted e id command s h is held accepted =
     let t = sent_is H E id s (sym (h.each id) ∙ sym held) in
     ap (open_in E) is ∙ ap (λ (b : Bool). if b then [] else id ∷ []) (sym t.accepted ∙ accepted)
 
-pub open_still : (H : List Executed) (E : List Event) (noted : Noted) (e : Event) (id : Id) (command : List ℕ) → e ≡ Send id command
+pub open_still : (H : List Executed) (E : List ClientEvent) (noted : Noted) (e : ClientEvent) (id : Id) (command : List ℕ) → e ≡ Sent id command
     → list_any (accepts_it id) E ≡ false → open_in E e ≡ id ∷ []
 open_still H E noted e id command is away = ap (open_in E) is ∙ ap (λ (b : Bool). if b then [] else id ∷ []) away
 
-pub away_of_some : (H : List Executed) (E : List Event) (noted : Noted) (id : Id) (s : Sent) → AreNoted H E noted
+pub away_of_some : (H : List Executed) (E : List ClientEvent) (noted : Noted) (id : Id) (s : SentRequest) → AreNoted H E noted
     → Some s ≡ get id_eq noted.sent id → s.accepted ≡ false → list_any (accepts_it id) E ≡ false
 away_of_some H E noted id s h held away = sym (sent_is H E id s (sym (h.each id) ∙ sym held)).accepted ∙ away
 
-pub away_of_none : (H : List Executed) (E : List Event) (noted : Noted) (id : Id) → AreNoted H E noted
+pub away_of_none : (H : List Executed) (E : List ClientEvent) (noted : Noted) (id : Id) → AreNoted H E noted
     → get id_eq noted.sent id ≡ None → list_any (accepts_it id) E ≡ false
 away_of_none H E noted id h none = not_accepted H E noted id h (unsent_is H E id (sym (h.each id) ∙ none))

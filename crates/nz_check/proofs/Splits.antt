@@ -102,11 +102,6 @@ pub precedes_over : {X : Type 0} (a b : List X) (x y : X) → Has b y → Preced
 precedes_over [] b x y h = inl (refl, h)
 precedes_over (z ∷ a) b x y h = inr (precedes_over a b x y h)
 
-pub precedes_map : {X Y : Type 0} (f : X → Y) (xs : List X) (x y : X) → Precedes xs x y → Precedes (map f xs) (f x) (f y)
-precedes_map f [] x y h = absurd h
-precedes_map f (z ∷ xs) x y (inl h) = inl (ap f h.0, has_map f xs y h.1)
-precedes_map f (z ∷ xs) x y (inr h) = inr (precedes_map f xs x y h)
-
 second_has : {X : Type 0} (xs : List X) (x y : X) → Precedes xs x y → Has xs y
 second_has [] x y h = absurd h
 second_has (z ∷ xs) x y (inl h) = inr h.1

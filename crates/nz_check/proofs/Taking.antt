@@ -15,14 +15,14 @@ use Rattle.nz_base.proofs.Names.{same_id}
 use Rattle.nz_store.specs.declared.command.Answer.{Answer}
 use Rattle.nz_msg.specs.declared.message.Path.{Path}
 use Rattle.nz_machine.specs.declared.journal.Executed.{Executed}
-use Rattle.nz_text.specs.declared.printed.Event.{Event}
-use Rattle.nz_text.specs.declared.printed.Event.TheVariants.{Send, Accept}
+use Rattle.nz_machine.specs.declared.client_event.ClientEvent.{ClientEvent}
+use Rattle.nz_machine.specs.declared.client_event.ClientEvent.TheVariants.{Sent, Accepted}
 use Rattle.nz_text.specs.Text.{accepts_it}
 use Rattle.nz_text.specs.declared.printed.Printed.{Printed}
 use Rattle.nz_check.specs.declared.verdict.Why.{Why}
 use Rattle.nz_check.specs.declared.verdict.Why.TheVariants.{Repeat, Unsent, Missing}
 use Rattle.nz_check.specs.declared.verdict.Why.TheVariants as why
-use Rattle.nz_check.specs.declared.events.Sent.{Sent}
+use Rattle.nz_check.specs.declared.events.SentRequest.{SentRequest}
 use Rattle.nz_check.specs.declared.events.Noted.{Noted}
 use Rattle.nz_check.specs.Checked.{sends_it, answer_at, event_why}
 use Rattle.nz_check.specs.Noting.{first_place, reach_of_place, reach_of, accepted_ids, sent_of, AreNoted, IsTaken}
@@ -31,61 +31,61 @@ use Rattle.nz_check.proofs.Notes.{sent_test, unsent_test, unsent_is, placed, not
 use Rattle.nz_check.proofs.Notes.{sent_now, sent_accepted, sent_is}
 
 -- none accepts what none sends
-pub not_accepted : (H : List Executed) (E : List Event) (old : Noted) (id : Id) → AreNoted H E old → list_any (sends_it id) E ≡ false → list_any (accepts_it id) E ≡ false
+pub not_accepted : (H : List Executed) (E : List ClientEvent) (old : Noted) (id : Id) → AreNoted H E old → list_any (sends_it id) E ≡ false → list_any (accepts_it id) E ≡ false
 not_accepted H E old id h unsent = elim (cases_Bool (list_any (accepts_it id) E)) [
   | inl accepted ↦ absurd (false≢true (sym unsent ∙ h.asked id accepted))
   | inr away ↦ away
 ]
 
-more_sent : (E : List Event) (e : Event) (i : Id) → list_any (sends_it i) E ≡ true → list_any (sends_it i) (E ++ e ∷ []) ≡ true
+more_sent : (E : List ClientEvent) (e : ClientEvent) (i : Id) → list_any (sends_it i) E ≡ true → list_any (sends_it i) (E ++ e ∷ []) ≡ true
 more_sent E e i h = list_any-append (sends_it i) E (e ∷ []) ∙ or_left (list_any (sends_it i) E) (sends_it i e || false) h
 
-pub noted_send : (H : List Executed) (E : List Event) (id : Id) (command : List ℕ) (old now : Noted) → AreNoted H E old → list_any (sends_it id) E ≡ false
+pub noted_send : (H : List Executed) (E : List ClientEvent) (id : Id) (command : List ℕ) (old now : Noted) → AreNoted H E old → list_any (sends_it id) E ≡ false
     → ((i : Id) → get id_eq now.sent i ≡ cond (id_eq id i) (Some (record { place = length E; reach = old.reach; accepted = false })) (get id_eq old.sent i))
-    → now.reach ≡ old.reach → AreNoted H (E ++ Send id command ∷ []) now
+    → now.reach ≡ old.reach → AreNoted H (E ++ Sent id command ∷ []) now
 noted_send H E id command old now h unsent put same = record {
   each = λ i. put i ∙ elim (cases_Bool (id_eq id i)) [
     | inl here ↦
         ap (λ (b : Bool). cond b (Some (record { place = length E; reach = old.reach; accepted = false })) (get id_eq old.sent i)) here
         ∙ ap (λ (n : ℕ). Some (record { place = length E; reach = n; accepted = false })) h.reach
         ∙ sym (sent_now H E id command unsent (not_accepted H E old id h unsent))
-        ∙ ap (sent_of H (E ++ Send id command ∷ [])) (same_id id i here)
+        ∙ ap (sent_of H (E ++ Sent id command ∷ [])) (same_id id i here)
     | inr away ↦
         ap (λ (b : Bool). cond b (Some (record { place = length E; reach = old.reach; accepted = false })) (get id_eq old.sent i)) away
-        ∙ h.each i ∙ sym (sent_kept H E (Send id command) i away refl)
+        ∙ h.each i ∙ sym (sent_kept H E (Sent id command) i away refl)
   ];
   reach = same ∙ h.reach ∙ ap (reach_of H) (sym (ids_with_send id command E));
-  asked = λ i accepted. more_sent E (Send id command) i (h.asked i
-      (elim (or_cases (list_any (accepts_it i) E) false (sym (list_any-append (accepts_it i) E (Send id command ∷ [])) ∙ accepted))
+  asked = λ i accepted. more_sent E (Sent id command) i (h.asked i
+      (elim (or_cases (list_any (accepts_it i) E) false (sym (list_any-append (accepts_it i) E (Sent id command ∷ [])) ∙ accepted))
       [ inl before ↦ before | inr none ↦ absurd (false≢true none) ]));
 }
 
-pub noted_accept : (H : List Executed) (E : List Event) (id : Id) (answer : Answer) (path : Path) (s : Sent) (place : ℕ) (old now : Noted) → AreNoted H E old
+pub noted_accept : (H : List Executed) (E : List ClientEvent) (id : Id) (answer : Answer) (path : Path) (s : SentRequest) (place : ℕ) (old now : Noted) → AreNoted H E old
     → get id_eq old.sent id ≡ Some s → first_place 0 id H ≡ Some place
     → ((i : Id) → get id_eq now.sent i ≡ cond (id_eq id i) (Some (record { place = s.place; reach = s.reach; accepted = true })) (get id_eq old.sent i))
-    → now.reach ≡ max old.reach (suc place) → AreNoted H (E ++ Accept id answer path ∷ []) now
+    → now.reach ≡ max old.reach (suc place) → AreNoted H (E ++ Accepted id answer path ∷ []) now
 noted_accept H E id answer path s place old now h held at put reach =
     let known : sent_of H E id ≡ Some s = sym (h.each id) ∙ held in
     record {
       each = λ i. put i ∙ elim (cases_Bool (id_eq id i)) [
         | inl here ↦
             ap (λ (b : Bool). cond b (Some (record { place = s.place; reach = s.reach; accepted = true })) (get id_eq old.sent i)) here
-            ∙ sym (sent_accepted H E id answer path s known) ∙ ap (sent_of H (E ++ Accept id answer path ∷ [])) (same_id id i here)
+            ∙ sym (sent_accepted H E id answer path s known) ∙ ap (sent_of H (E ++ Accepted id answer path ∷ [])) (same_id id i here)
         | inr away ↦
             ap (λ (b : Bool). cond b (Some (record { place = s.place; reach = s.reach; accepted = true })) (get id_eq old.sent i)) away
-            ∙ h.each i ∙ sym (sent_kept H E (Accept id answer path) i refl away)
+            ∙ h.each i ∙ sym (sent_kept H E (Accepted id answer path) i refl away)
       ];
       reach =
           reach ∙ ap (λ (n : ℕ). max n (suc place)) h.reach
           ∙ ap (λ (o : Option ℕ). max (reach_of H (accepted_ids E)) (reach_of_place (length H) o)) (sym at)
           ∙ sym (reach_push H (accepted_ids E) id) ∙ ap (reach_of H) (sym (ids_with_accept id answer path E));
       asked = λ i accepted.
-          elim (or_cases (list_any (accepts_it i) E) (id_eq id i || false) (sym (list_any-append (accepts_it i) E (Accept id answer path ∷ [])) ∙ accepted)) [
-            | inl before ↦ more_sent E (Accept id answer path) i (h.asked i before)
+          elim (or_cases (list_any (accepts_it i) E) (id_eq id i || false) (sym (list_any-append (accepts_it i) E (Accepted id answer path ∷ [])) ∙ accepted)) [
+            | inl before ↦ more_sent E (Accepted id answer path) i (h.asked i before)
             | inr own ↦
                 elim (or_cases (id_eq id i) false own) [
                   | inl here ↦
-                      more_sent E (Accept id answer path) i
+                      more_sent E (Accepted id answer path) i
                       (subst (λ (j : Id). list_any (sends_it j) E ≡ true) (same_id id i here) (sent_is H E id s known).sent)
                   | inr none ↦ absurd (false≢true none)
                 ]
@@ -94,16 +94,16 @@ noted_accept H E id answer path s place old now h held at put reach =
 
 -- ---- a send
 
-pub send_repeats : (p : Printed) (above : List Event) (id : Id) (command : List ℕ) (old now : Noted) → AreNoted p.history above old
-    → is_some (get id_eq old.sent id) ≡ true → IsTaken p above (Send id command) (Some Repeat) now
+pub send_repeats : (p : Printed) (above : List ClientEvent) (id : Id) (command : List ℕ) (old now : Noted) → AreNoted p.history above old
+    → is_some (get id_eq old.sent id) ≡ true → IsTaken p above (Sent id command) (Some Repeat) now
 send_repeats p above id command old now h some =
     let sent = sent_test p.history above id (get id_eq old.sent id) (sym (h.each id)) some in
     record { found = sym (why_is (list_any (sends_it id) above) Repeat None sent); noted = λ e. absurd (none-some Repeat (sym e)) }
 
-pub send_is_new : (p : Printed) (above : List Event) (id : Id) (command : List ℕ) (place : ℕ) (old now : Noted) → AreNoted p.history above old
+pub send_is_new : (p : Printed) (above : List ClientEvent) (id : Id) (command : List ℕ) (place : ℕ) (old now : Noted) → AreNoted p.history above old
     → length above ≡ place → is_some (get id_eq old.sent id) ≡ false
     → ((i : Id) → get id_eq now.sent i ≡ cond (id_eq id i) (Some (record { place = place; reach = old.reach; accepted = false })) (get id_eq old.sent i))
-    → now.reach ≡ old.reach → IsTaken p above (Send id command) None now
+    → now.reach ≡ old.reach → IsTaken p above (Sent id command) None now
 send_is_new p above id command place old now h long none put same =
     let unsent = unsent_test p.history above id (get id_eq old.sent id) (sym (h.each id)) none in
     record {
@@ -119,8 +119,8 @@ last_tests p id answer =
     cond (is_none (answer_at id p.history)) (Some Missing)
     (cond (not (option_eq answer_eq (answer_at id p.history) (Some answer))) (Some why.Answer) None)
 
-pub accept_unsent : (p : Printed) (above : List Event) (id : Id) (answer : Answer) (path : Path) (old now : Noted) → AreNoted p.history above old
-    → None ≡ get id_eq old.sent id → IsTaken p above (Accept id answer path) (Some Unsent) now
+pub accept_unsent : (p : Printed) (above : List ClientEvent) (id : Id) (answer : Answer) (path : Path) (old now : Noted) → AreNoted p.history above old
+    → None ≡ get id_eq old.sent id → IsTaken p above (Accepted id answer path) (Some Unsent) now
 accept_unsent p above id answer path old now h none =
     let unsent = unsent_is p.history above id (sym (h.each id) ∙ sym none) in
     record {
@@ -129,8 +129,8 @@ accept_unsent p above id answer path old now h none =
       noted = λ e. absurd (none-some Unsent (sym e));
     }
 
-pub accept_repeats : (p : Printed) (above : List Event) (id : Id) (answer : Answer) (path : Path) (s : Sent) (old now : Noted) → AreNoted p.history above old
-    → Some s ≡ get id_eq old.sent id → s.accepted ≡ true → IsTaken p above (Accept id answer path) (Some Repeat) now
+pub accept_repeats : (p : Printed) (above : List ClientEvent) (id : Id) (answer : Answer) (path : Path) (s : SentRequest) (old now : Noted) → AreNoted p.history above old
+    → Some s ≡ get id_eq old.sent id → s.accepted ≡ true → IsTaken p above (Accepted id answer path) (Some Repeat) now
 accept_repeats p above id answer path s old now h held twice =
     let t = sent_is p.history above id s (sym (h.each id) ∙ sym held) in
     record {
@@ -139,16 +139,16 @@ accept_repeats p above id answer path s old now h held twice =
     }
 
 -- the first two tests are false
-passed : (p : Printed) (above : List Event) (id : Id) (answer : Answer) (path : Path) (s : Sent) (old : Noted) (r : Option Why) → AreNoted p.history above old
-    → Some s ≡ get id_eq old.sent id → s.accepted ≡ false → last_tests p id answer ≡ r → event_why p above (Accept id answer path) ≡ r
+passed : (p : Printed) (above : List ClientEvent) (id : Id) (answer : Answer) (path : Path) (s : SentRequest) (old : Noted) (r : Option Why) → AreNoted p.history above old
+    → Some s ≡ get id_eq old.sent id → s.accepted ≡ false → last_tests p id answer ≡ r → event_why p above (Accepted id answer path) ≡ r
 unfolding last_tests
 passed p above id answer path s old r h held once rest =
     let t = sent_is p.history above id s (sym (h.each id) ∙ sym held) in
     why_skips (list_any (accepts_it id) above) Repeat _ r (sym t.accepted ∙ once)
     (why_skips (not (list_any (sends_it id) above)) Unsent _ r (lets (list_any (sends_it id) above) t.sent) rest)
 
-pub accept_missing : (p : Printed) (above : List Event) (id : Id) (answer : Answer) (path : Path) (s : Sent) (old now : Noted) → AreNoted p.history above old
-    → Some s ≡ get id_eq old.sent id → s.accepted ≡ false → first_place 0 id p.history ≡ None → IsTaken p above (Accept id answer path) (Some Missing) now
+pub accept_missing : (p : Printed) (above : List ClientEvent) (id : Id) (answer : Answer) (path : Path) (s : SentRequest) (old now : Noted) → AreNoted p.history above old
+    → Some s ≡ get id_eq old.sent id → s.accepted ≡ false → first_place 0 id p.history ≡ None → IsTaken p above (Accepted id answer path) (Some Missing) now
 unfolding last_tests
 accept_missing p above id answer path s old now h held once away =
     record {
@@ -175,10 +175,10 @@ is_answered p id place at =
     let t = placed id p.history 0 place at in
     ap (λ (o : Option Answer). is_none o) (sym t.answer) ∙ some_there p.history t.offset t.within
 
-pub accept_differs : (p : Printed) (above : List Event) (id : Id) (answer : Answer) (path : Path) (s : Sent) (place : ℕ) (old now : Noted) → AreNoted p.history above old
+pub accept_differs : (p : Printed) (above : List ClientEvent) (id : Id) (answer : Answer) (path : Path) (s : SentRequest) (place : ℕ) (old now : Noted) → AreNoted p.history above old
     → Some s ≡ get id_eq old.sent id → s.accepted ≡ false → first_place 0 id p.history ≡ Some place
     → option_eq answer_eq (option_map (λ (x : Executed). x.answer) (slice_get p.history place)) (Some answer) ≡ false
-    → IsTaken p above (Accept id answer path) (Some why.Answer) now
+    → IsTaken p above (Accepted id answer path) (Some why.Answer) now
 unfolding last_tests
 accept_differs p above id answer path s place old now h held once at differs =
     let test = option_eq answer_eq (answer_at id p.history) (Some answer) in
@@ -190,11 +190,11 @@ accept_differs p above id answer path s place old now h held once at differs =
       noted = λ e. absurd (none-some why.Answer (sym e));
     }
 
-pub accept_fits : (p : Printed) (above : List Event) (id : Id) (answer : Answer) (path : Path) (s : Sent) (place : ℕ) (old now : Noted) → AreNoted p.history above old
+pub accept_fits : (p : Printed) (above : List ClientEvent) (id : Id) (answer : Answer) (path : Path) (s : SentRequest) (place : ℕ) (old now : Noted) → AreNoted p.history above old
     → Some s ≡ get id_eq old.sent id → s.accepted ≡ false → first_place 0 id p.history ≡ Some place
     → option_eq answer_eq (option_map (λ (x : Executed). x.answer) (slice_get p.history place)) (Some answer) ≡ true
     → ((i : Id) → get id_eq now.sent i ≡ cond (id_eq id i) (Some (record { place = s.place; reach = s.reach; accepted = true })) (get id_eq old.sent i))
-    → now.reach ≡ max old.reach (suc place) → IsTaken p above (Accept id answer path) None now
+    → now.reach ≡ max old.reach (suc place) → IsTaken p above (Accepted id answer path) None now
 unfolding last_tests
 accept_fits p above id answer path s place old now h held once at same put reach =
     let test = option_eq answer_eq (answer_at id p.history) (Some answer) in

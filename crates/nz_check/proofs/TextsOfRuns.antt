@@ -20,22 +20,22 @@ use Rattle.nz_machine.specs.rules.State.{ClientData, Group}
 use Rattle.nz_machine.specs.rules.Replicas.{commands}
 use Rattle.nz_machine.specs.rules.Step.{script_of}
 use Rattle.nz_machine.specs.runs.World.{state_after, Has, HasCommand, IsGroup, IsMember, World}
-use Rattle.nz_machine.specs.runs.Events.{ClientEvent, Sent, Accepted, id_at, command_of_request, read_in, accepted_in}
+use Rattle.nz_machine.specs.declared.client_event.ClientEvent.{ClientEvent}
+use Rattle.nz_machine.specs.declared.client_event.ClientEvent.TheVariants.{Sent, Accepted}
+use Rattle.nz_machine.specs.runs.Events.{id_at, command_of_request, read_in, accepted_in}
 use Rattle.nz_machine.specs.runs.Events.{accepted_by, sent_after, sent_by, client_events, events}
 use Rattle.nz_machine.specs.runs.History.{history}
 use Rattle.nz_machine.specs.runs.OneHistory.{Precedes}
 use Rattle.nz_machine.specs.journals.Journals.{executed_if_answered, executed_from}
 use Rattle.nz_machine.proofs.runs.Runs.{all_if_has, all_has, group_of}
 use Rattle.nz_machine.proofs.lists.EachItem.{all_append}
-use Rattle.nz_machine.proofs.lists.ListParts.{all_map, all_flat_map}
+use Rattle.nz_machine.proofs.lists.ListParts.{all_flat_map}
 use Rattle.nz_machine.proofs.runs.FitRuns.{FitsState, all_fit}
 use Rattle.nz_machine.proofs.facts.FitClients.{client_of}
 use Rattle.nz_laws_commit.proofs.Counts.{are_once}
 use Rattle.nz_lin.proofs.Histories.{history_is, history_sent, history_few}
-use Rattle.nz_text.specs.declared.printed.Event.{Event}
-use Rattle.nz_text.specs.declared.printed.Event.TheVariants.{Send, Accept}
 use Rattle.nz_text.specs.Fit.{FitsId, FitsEvent, FitsExecuted, FitsPrinted}
-use Rattle.nz_text.specs.Text.{event_of, accepts_it, open_in, events_in, printed_of_run, text}
+use Rattle.nz_text.specs.Text.{accepts_it, open_in, printed_of_run, text}
 use Rattle.nz_text.specs.Reading.{printed_in}
 use Rattle.nz_text.proofs.Whole.{read_back}
 use Rattle.nz_check.proofs.Answers.{reply_fits}
@@ -74,11 +74,11 @@ sent_fits c script num (suc more) address short all few = (
   sent_fits c script (num + 1) more address short all (omega (arith, few)),
 )
 
-told_fits : (g : Group) (a : Actor) (r : Record) (J : List Record) → IsGroup g → IsMember g a
+events_of_record_fit : (g : Group) (a : Actor) (r : Record) (J : List Record) → IsGroup g → IsMember g a
     → FitsState g a (state_after g a (r ∷ J)) → AllByRecursion FitsSent (client_events g a r J)
-told_fits g (Replica m) r J group member h = tt
-told_fits g (Proxy p) r J group member h = tt
-told_fits g (Client c) r J group member h =
+events_of_record_fit g (Replica m) r J group member h = tt
+events_of_record_fit g (Proxy p) r J group member h = tt
+events_of_record_fit g (Client c) r J group member h =
     let before = state_after g (Client c) J in
     let after = state_after g (Client c) (r ∷ J) in
     let script = script_of g c in
@@ -92,7 +92,7 @@ sent_fit : (g : Group) (J : List Record) → World g J → AllByRecursion FitsSe
 sent_fit g [] w = tt
 sent_fit g (r ∷ J) w =
     all_append FitsSent (events g J) (client_events g r.actor r J) (sent_fit g J w.1)
-    (told_fits g r.actor r J (group_of g J w.1) w.0.member ((all_fit g (r ∷ J) w).states r.actor))
+    (events_of_record_fit g r.actor r J (group_of g J w.1) w.0.member ((all_fit g (r ∷ J) w).states r.actor))
 
 request_fits : (g : Group) (J : List Record) (id : Id) (command : List ℕ) → World g J
     → Has (events g J) (Sent id command) → FitsId id × IsSome (command_of command)
@@ -105,7 +105,7 @@ first_has [] x y h = absurd h
 first_has (z ∷ zs) x y (inl h) = inl h.0
 first_has (z ∷ zs) x y (inr h) = inr (first_has zs x y h)
 
-event_fits : (g : Group) (J : List Record) (t : ClientEvent) → World g J → Has (events g J) t → FitsEvent (event_of t)
+event_fits : (g : Group) (J : List Record) (t : ClientEvent) → World g J → Has (events g J) t → FitsEvent t
 event_fits g J (Sent id command) w h = request_fits g J id command w h
 event_fits g J (Accepted id answer path) w h =
     let request = (are_once g J).in_order id answer path h in
@@ -116,14 +116,14 @@ event_fits g J (Accepted id answer path) w h =
       reply_fits (commands covered.prefix) by.place answer by.answered,
     )
 
-events_fit : (g : Group) (J : List Record) → World g J → AllByRecursion FitsEvent (events_in g J)
-events_fit g J w = all_map FitsEvent event_of (events g J) (all_if_has (λ t. FitsEvent (event_of t)) (events g J) (λ t h. event_fits g J t w h))
+events_fit : (g : Group) (J : List Record) → World g J → AllByRecursion FitsEvent (events g J)
+events_fit g J w = all_if_has FitsEvent (events g J) (λ t h. event_fits g J t w h)
 
-open_fits : (E : List Event) (e : Event) → FitsEvent e → AllByRecursion FitsId (open_in E e)
-open_fits E (Send id command) h = cond_both (list_any (accepts_it id) E) [] (id ∷ []) (AllByRecursion FitsId) (λ _. tt) (λ _. (h.0, tt))
-open_fits E (Accept id answer path) h = tt
+open_fits : (E : List ClientEvent) (e : ClientEvent) → FitsEvent e → AllByRecursion FitsId (open_in E e)
+open_fits E (Sent id command) h = cond_both (list_any (accepts_it id) E) [] (id ∷ []) (AllByRecursion FitsId) (λ _. tt) (λ _. (h.0, tt))
+open_fits E (Accepted id answer path) h = tt
 
-each_open : (E es : List Event) → AllByRecursion FitsEvent es → AllByRecursion (λ e. AllByRecursion FitsId (open_in E e)) es
+each_open : (E es : List ClientEvent) → AllByRecursion FitsEvent es → AllByRecursion (λ e. AllByRecursion FitsId (open_in E e)) es
 each_open E [] h = tt
 each_open E (e ∷ es) h = (open_fits E e h.0, each_open E es h.1)
 
@@ -169,7 +169,7 @@ fits g J w =
     let executed_few = few_executed (history g J) 0 (history g J) in
     record {
       events = own;
-      unanswered = all_flat_map FitsId (open_in (events_in g J)) (events_in g J) (each_open (events_in g J) (events_in g J) own);
+      unanswered = all_flat_map FitsId (open_in (events g J)) (events g J) (each_open (events g J) (events g J) own);
       history = executed_fit (history g J) 0 (history g J) (requests g J w);
       few = omega (arith, few, executed_few);
     }

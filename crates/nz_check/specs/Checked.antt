@@ -13,8 +13,8 @@ use Rattle.nz_machine.specs.declared.journal.Executed.{Executed}
 use Rattle.nz_machine.specs.rules.Quorums.{answer_eq}
 use Rattle.nz_text.specs.declared.fault.TextFault.{TextFault}
 use Rattle.nz_text.specs.declared.fault.TextFault.TheVariants.{Bad, NoMemory}
-use Rattle.nz_text.specs.declared.printed.Event.{Event}
-use Rattle.nz_text.specs.declared.printed.Event.TheVariants.{Send, Accept}
+use Rattle.nz_machine.specs.declared.client_event.ClientEvent.{ClientEvent}
+use Rattle.nz_machine.specs.declared.client_event.ClientEvent.TheVariants.{Sent, Accepted}
 use Rattle.nz_text.specs.declared.printed.Printed.{Printed}
 use Rattle.nz_text.specs.Text.{accepts_it, unanswered_in}
 use Rattle.nz_text.specs.Reading.{printed_in}
@@ -46,21 +46,21 @@ first_line n (Some reason ∷ lines) = No n reason
 -- ---- events and entries
 
 -- The event sends the request.
-abbrev pub sends_it : Id → Event → Bool
-sends_it id (Send other command) = id_eq other id
-sends_it id (Accept other answer path) = false
+abbrev pub sends_it : Id → ClientEvent → Bool
+sends_it id (Sent other command) = id_eq other id
+sends_it id (Accepted other answer path) = false
 
 -- The command with which the request is first sent.
-abbrev pub command_sent : Id → List Event → Option (List ℕ)
+abbrev pub command_sent : Id → List ClientEvent → Option (List ℕ)
 command_sent id [] = None
-command_sent id (Send other command ∷ events) = if id_eq other id then Some command else command_sent id events
-command_sent id (Accept other answer path ∷ events) = command_sent id events
+command_sent id (Sent other command ∷ events) = if id_eq other id then Some command else command_sent id events
+command_sent id (Accepted other answer path ∷ events) = command_sent id events
 
 -- The requests that are accepted before the request is first sent.
-abbrev pub accepted_before : Id → List Event → List Id
+abbrev pub accepted_before : Id → List ClientEvent → List Id
 accepted_before id [] = []
-accepted_before id (Send other command ∷ events) = if id_eq other id then [] else accepted_before id events
-accepted_before id (Accept other answer path ∷ events) = other ∷ accepted_before id events
+accepted_before id (Sent other command ∷ events) = if id_eq other id then [] else accepted_before id events
+accepted_before id (Accepted other answer path ∷ events) = other ∷ accepted_before id events
 
 -- The entries have one of the request.
 abbrev pub has_executed : Id → List Executed → Bool
@@ -78,9 +78,9 @@ commands_of entries = map (λ x. x.command) entries
 -- ---- the tests of each line
 
 -- What is wrong with an event, by the events above it.
-abbrev pub event_why : Printed → List Event → Event → Option Why
-event_why p above (Send id command) = first_why ((list_any (sends_it id) above, Repeat) ∷ [])
-event_why p above (Accept id answer path) = first_why
+abbrev pub event_why : Printed → List ClientEvent → ClientEvent → Option Why
+event_why p above (Sent id command) = first_why ((list_any (sends_it id) above, Repeat) ∷ [])
+event_why p above (Accepted id answer path) = first_why
     ((list_any (accepts_it id) above, Repeat)
     ∷ (not (list_any (sends_it id) above), Unsent)
     ∷ (is_none (answer_at id p.history), Missing)

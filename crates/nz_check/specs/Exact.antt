@@ -7,20 +7,14 @@ use Rattle.nz_store.specs.Sequence.{replies}
 use Rattle.nz_msg.specs.declared.message.Path.{Path}
 use Rattle.nz_machine.specs.declared.journal.Executed.{Executed}
 use Rattle.nz_machine.specs.runs.World.{Has}
-use Rattle.nz_machine.specs.runs.Events.{ClientEvent, Sent, Accepted}
+use Rattle.nz_machine.specs.declared.client_event.ClientEvent.{ClientEvent}
+use Rattle.nz_machine.specs.declared.client_event.ClientEvent.TheVariants.{Sent, Accepted}
 use Rattle.nz_machine.specs.runs.OneHistory.{Precedes, Lin}
-use Rattle.nz_text.specs.declared.printed.Event.{Event}
-use Rattle.nz_text.specs.declared.printed.Event.TheVariants.{Send, Accept}
 use Rattle.nz_text.specs.declared.printed.Printed.{Printed}
 use Rattle.nz_text.specs.Text.{unanswered_in}
 use Rattle.nz_text.specs.Reading.{printed_in}
 use Rattle.nz_check.specs.declared.limit.TheConstants.{MAX_PRINTED}
 use Rattle.nz_check.specs.Checked.{commands_of}
-
--- The event of a line, as the machine has it.
-abbrev pub client_event : Event → ClientEvent
-client_event (Send id command) = Sent id command
-client_event (Accept id answer path) = Accepted id answer path
 
 -- The entry of a line, as a log has it. A text has no deadlines, and one history reads none.
 abbrev pub entry_of : Executed → Entry
@@ -39,10 +33,10 @@ pub record AreInForm (E : List ClientEvent) : Type 0 where
 -- The events are in form, the open lines are the requests without acceptance, the answers are those of the one store
 -- that executes the history, and events and history are one history.
 pub record IsChecked (p : Printed) : Type 0 where
-  pub in_form : AreInForm (map client_event p.events)
+  pub in_form : AreInForm p.events
   pub open_lines : p.unanswered ≡ unanswered_in p.events
   pub answers : map (λ x. x.answer) p.history ≡ replies (commands_of p.history)
-  pub one_history : Lin (map client_event p.events) (entries_of p.history)
+  pub one_history : Lin p.events (entries_of p.history)
 
 -- The text is within the limit and of the grammar, and what it says is checked.
 pub record IsCheckedText (bytes : List ℕ) : Type 0 where

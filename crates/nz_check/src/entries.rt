@@ -16,17 +16,17 @@ use super::events::{Noted, is_same_answer};
 use super::places::{Places, place_of};
 use super::verdict::{Verdict, Why};
 use nz_base::NoMemory;
-use nz_machine::Executed;
+use nz_machine::{ClientEvent, Executed};
 use nz_store::{Answer, CommandRef, Store, command_in};
-use nz_text::{Event, Printed};
+use nz_text::Printed;
 use std::alloc::Global;
 
 /// Whether the event at this place sends the command.
-fn sends_command(events: &[Event], place: u32, command: &[u8]) -> bool
+fn sends_command(events: &[ClientEvent], place: u32, command: &[u8]) -> bool
     ensures { result ≡ is_sent_at events.now place command.now }
 {
     match events.get(place as usize) {
-        Some(Event::Send { command: sent, .. }) => sent.as_slice() == command,
+        Some(ClientEvent::Sent { command: sent, .. }) => sent.as_slice() == command,
         _ => false,
     }
 }

@@ -6,8 +6,8 @@ ghost use Rattle.indexmap.specs.IndexMap.{get};
 ghost use Rattle.nz_base.specs.Key.{id_eq};
 ghost use Rattle.nz_base.specs.declared.key.Id.{Id as IdModel};
 ghost use Rattle.nz_machine.specs.rules.Quorums.{answer_eq};
-ghost use Rattle.nz_text.specs.declared.printed.Event.{Event as EventModel};
-ghost use Rattle.nz_text.specs.declared.printed.Event.TheVariants.{Send as SendModel, Accept as AcceptModel};
+ghost use Rattle.nz_machine.specs.declared.client_event.ClientEvent.{ClientEvent as EventModel};
+ghost use Rattle.nz_machine.specs.declared.client_event.ClientEvent.TheVariants.{Sent as SentModel, Accepted as AcceptedModel};
 ghost use Rattle.nz_text.specs.declared.printed.Printed.{Printed as PrintedModel};
 ghost use Rattle.nz_msg.specs.declared.message.Path.{Path as PathModel};
 ghost use Rattle.nz_check.specs.Checked.{first_line, whys, event_why};
@@ -18,14 +18,14 @@ use super::places::{Places, place_of};
 use super::verdict::{Verdict, Why};
 use indexmap::IndexMap;
 use nz_base::{Id, NoMemory};
-use nz_machine::Executed;
+use nz_machine::{ClientEvent, Executed};
 use nz_store::Answer;
-use nz_text::{Event, Printed};
+use nz_text::Printed;
 use std::alloc::Global;
 
 /// What is noted of a request that was sent.
 #[derive(Clone, Copy, Debug)]
-pub struct Sent {
+pub struct SentRequest {
     /// The place of its event, from 0.
     pub place: u32,
     /// How many entries of the history it takes to have all that was accepted before.
@@ -36,7 +36,7 @@ pub struct Sent {
 /// What is noted of the events so far.
 #[derive(Drop)]
 pub struct Noted {
-    pub sent: IndexMap<Id, Sent>,
+    pub sent: IndexMap<Id, SentRequest>,
     /// How many entries of the history it takes to have all that was accepted so far.
     pub reach: u32,
 }
@@ -75,13 +75,13 @@ impl Noted {
     }
 
     /// What is noted of the request.
-    pub fn of(&self, id: Id) -> Option<Sent>
+    pub fn of(&self, id: Id) -> Option<SentRequest>
         ensures { result ≡ get id_eq self.now.sent id }
     {
         self.sent.get(&id).copied()
     }
 
-    fn note(&mut self, id: Id, sent: Sent) -> Result<(), NoMemory>
+    fn note(&mut self, id: Id, sent: SentRequest) -> Result<(), NoMemory>
         ensures each { OnOk result ((i : IdModel) → get id_eq self.new.sent i ≡ (if id_eq id i then Some sent else get id_eq self.old.sent i)) }
         ensures reach { self.new.reach ≡ self.old.reach }
     {
@@ -91,7 +91,7 @@ impl Noted {
 
     fn take_send(&mut self, id: Id, place: u32) -> Result<Option<Why>, NoMemory>
         ensures { (p : PrintedModel) (above : List EventModel) (command : List ℕ) → AreNoted p.history above self.old → length above ≡ place
-            → IfOk result (λ why. IsTaken p above (SendModel id command) why self.new) }
+            → IfOk result (λ why. IsTaken p above (SentModel id command) why self.new) }
     {
         if self.of(id).is_some() {
             return Ok(Some(Why::Repeat));
@@ -99,7 +99,7 @@ impl Noted {
         let reach = self.reach;
         self.note(
             id,
-            Sent {
+            SentRequest {
                 place,
                 reach,
                 accepted: false,
@@ -118,7 +118,7 @@ impl Noted {
         requires few { length printed.now.history + 1 < 2 ^ 32 }
         requires places { AreFirstPlaces printed.now.history (get id_eq places.now) }
         ensures { (above : List EventModel) (path : PathModel) → AreNoted printed.now.history above self.old
-            → IfOk result (λ why. IsTaken printed.now above (AcceptModel id answer.now path) why self.new) }
+            → IfOk result (λ why. IsTaken printed.now above (AcceptedModel id answer.now path) why self.new) }
     {
         let Some(sent) = self.of(id) else {
             return Ok(Some(Why::Unsent));
@@ -134,7 +134,7 @@ impl Noted {
         }
         self.note(
             id,
-            Sent {
+            SentRequest {
                 place: sent.place,
                 reach: sent.reach,
                 accepted: true,
@@ -150,7 +150,7 @@ impl Noted {
         printed: &Printed,
         places: &Places,
         place: u32,
-        event: &Event,
+        event: &ClientEvent,
     ) -> Result<Option<Why>, NoMemory>
         requires few { length printed.now.history + 1 < 2 ^ 32 }
         requires places { AreFirstPlaces printed.now.history (get id_eq places.now) }
@@ -158,8 +158,10 @@ impl Noted {
             → IfOk result (λ why. IsTaken printed.now above event.now why self.new) }
     {
         match event {
-            Event::Send { id, .. } => self.take_send(*id, place),
-            Event::Accept { id, answer, .. } => self.take_accept(printed, places, *id, answer),
+            ClientEvent::Sent { id, .. } => self.take_send(*id, place),
+            ClientEvent::Accepted { id, answer, .. } => self.take_accept(
+                printed, places, *id, answer,
+            ),
         }
     }
 }

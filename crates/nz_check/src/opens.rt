@@ -4,7 +4,7 @@ ghost use Rattle.std.specs.Prelude.{◌≡◌, ◌+◌, ◌<◌, ◌^◌, ◌++�
 ghost use Rattle.std.specs.Option.{option_eq};
 ghost use Rattle.nz_base.specs.Key.{id_eq};
 ghost use Rattle.nz_machine.specs.declared.journal.Executed.{Executed};
-ghost use Rattle.nz_text.specs.declared.printed.Event.{Event as EventModel};
+ghost use Rattle.nz_machine.specs.declared.client_event.ClientEvent.{ClientEvent as EventModel};
 ghost use Rattle.nz_text.specs.Text.{open_in, unanswered_in};
 ghost use Rattle.nz_check.specs.Checked.{first_line, whys, open_why, lacks_open};
 ghost use Rattle.nz_check.specs.Noting.{AreNoted};
@@ -12,14 +12,15 @@ ghost use Rattle.nz_check.specs.Noting.{AreNoted};
 use super::events::Noted;
 use super::verdict::{Verdict, Why};
 use nz_base::{Id, IdList, NoMemory};
-use nz_text::{Event, Printed};
+use nz_machine::ClientEvent;
+use nz_text::Printed;
 use std::alloc::Global;
 
 /// Adds the request that the event sent, where it is not accepted.
-fn add_if_open(noted: &Noted, event: &Event, ids: &mut IdList) -> Result<(), NoMemory>
+fn add_if_open(noted: &Noted, event: &ClientEvent, ids: &mut IdList) -> Result<(), NoMemory>
     ensures { (H : List Executed) (E : List EventModel) → AreNoted H E noted.now → OnOk result (ids.new ≡ ids.old ++ open_in E event.now) }
 {
-    let Event::Send { id, .. } = event else {
+    let ClientEvent::Sent { id, .. } = event else {
         return Ok(());
     };
     match noted.of(*id) {
@@ -29,7 +30,7 @@ fn add_if_open(noted: &Noted, event: &Event, ids: &mut IdList) -> Result<(), NoM
 }
 
 /// The requests without acceptance, in the order in which they were sent.
-pub fn unanswered(alloc: Global, events: &[Event], noted: &Noted) -> Result<IdList, NoMemory>
+pub fn unanswered(alloc: Global, events: &[ClientEvent], noted: &Noted) -> Result<IdList, NoMemory>
     ensures { (H : List Executed) → AreNoted H events.now noted.now → IfOk result (λ ids. ids ≡ unanswered_in events.now) }
 {
     let mut ids = IdList::new(alloc);

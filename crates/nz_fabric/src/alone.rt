@@ -2,9 +2,8 @@
 
 ghost use Rattle.std.specs.Prelude.{◌≡◌, ◌⊎◌, ◌<◌, [], length, reverse, true, false, IfOk, OnOk, IfSome, MatchResult, MatchOption, MatchBool};
 ghost use Rattle.nz_machine.specs.journals.Journals.{run_in};
-ghost use Rattle.nz_machine.specs.runs.Schedule.{InOrder, IsPlayable};
-ghost use Rattle.nz_machine.specs.rules.State.{Group};
-ghost use Rattle.nz_machine.specs.journals.Tellings.{AreNoted};
+ghost use Rattle.nz_machine.specs.runs.Schedule.{group_of, InOrder, IsPlayable};
+ghost use Rattle.nz_machine.specs.journals.EventNotes.{AreNoted};
 ghost use Rattle.nz_machine.specs.runs.World.{World};
 ghost use Rattle.nz_fabric.specs.alone.States.{IsDone, IsKeptRun, IsNextItem, IsOpen};
 ghost use Rattle.nz_fabric.specs.alone.States.{after_tick, records_of, start_state, with_mark, with_recorded, with_taken};
@@ -192,13 +191,14 @@ impl Alone {
         Ok(true)
     }
 
-    /// Notes what the records of this tick tell.
+    /// Notes the events of this tick's records.
     pub fn note(&self, alloc: Global, notes: &mut Notes) -> Result<(), NoMemory>
-        ensures { OnOk result ((g : Group) → World g (records_of self.now)
+        ensures { let g = group_of self.now.scenario in OnOk result (World g (records_of self.now)
             → AreNoted g self.now.finished notes.old → AreNoted g (records_of self.now) notes.new) }
     {
         notes.read(
             alloc,
+            &self.ticks.scenario,
             self.gone as u32,
             &self.records,
             self.before - self.gone,

@@ -19,7 +19,9 @@ use Rattle.nz_machine.specs.declared.event.Record.{Record}
 use Rattle.nz_machine.specs.rules.State.{ClientData, Group}
 use Rattle.nz_machine.specs.rules.Step.{accepted_envelope, envelope_step, event_step}
 use Rattle.nz_machine.specs.runs.World.{state_after, Has, MayHappen, World}
-use Rattle.nz_machine.specs.runs.Events.{ClientEvent, Sent, Accepted, id_at, client_events, events}
+use Rattle.nz_machine.specs.declared.client_event.ClientEvent.{ClientEvent}
+use Rattle.nz_machine.specs.declared.client_event.ClientEvent.TheVariants.{Sent, Accepted}
+use Rattle.nz_machine.specs.runs.Events.{id_at, client_events, events}
 use Rattle.nz_machine.specs.declared.reply.Reply.{Reply}
 use Rattle.nz_machine.specs.rules.Quorums.{view_of}
 use Rattle.nz_machine.specs.runs.Committed.{view_of_sender, accepted_view, AcceptsIn, IsAcceptedIn}

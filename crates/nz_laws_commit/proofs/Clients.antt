@@ -18,7 +18,7 @@ use Rattle.nz_machine.specs.rules.Step.{client_message}
 use Rattle.nz_machine.specs.runs.Events.{script_command}
 use Rattle.nz_machine.proofs.lists.EachItem.{all_append, all_imply}
 use Rattle.nz_machine.proofs.journals.InTurn.{Rises, rises_most, InTurn, if_due_is}
-use Rattle.nz_machine.proofs.journals.ProgressIsTold.{own_command}
+use Rattle.nz_machine.proofs.journals.EventsAreRead.{own_command}
 
 -- a request that is sent has a number of the client, and the script's command
 pub record HasCommand (script : List Request) (sent num : ℕ) (command : List ℕ) : Type 0 where

@@ -17,7 +17,7 @@ use Rattle.nz_machine.specs.declared.event.Record.{Record}
 use Rattle.nz_machine.specs.rules.State.{Group}
 use Rattle.nz_machine.specs.rules.Replicas.{commands}
 use Rattle.nz_machine.specs.runs.World.{Has, World}
-use Rattle.nz_machine.specs.runs.Events.{Sent}
+use Rattle.nz_machine.specs.declared.client_event.ClientEvent.TheVariants.{Sent}
 use Rattle.nz_machine.specs.runs.OneHistory.{NoCollision}
 use Rattle.nz_machine.specs.runs.Leading.{is_normal_in, leader_at, is_led, lead}
 use Rattle.nz_machine.specs.runs.Committed.{Prefixes}

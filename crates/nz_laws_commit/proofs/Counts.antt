@@ -20,7 +20,9 @@ use Rattle.nz_machine.specs.rules.State.{ClientData, Group}
 use Rattle.nz_machine.specs.rules.Clients.{is_open}
 use Rattle.nz_machine.specs.rules.Step.{script_of, client_message, envelope_step, event_step}
 use Rattle.nz_machine.specs.runs.World.{state_after, Has}
-use Rattle.nz_machine.specs.runs.Events.{ClientEvent, Sent, Accepted, id_at, script_command, read_in, accepted_in}
+use Rattle.nz_machine.specs.declared.client_event.ClientEvent.{ClientEvent}
+use Rattle.nz_machine.specs.declared.client_event.ClientEvent.TheVariants.{Sent, Accepted}
+use Rattle.nz_machine.specs.runs.Events.{id_at, script_command, read_in, accepted_in}
 use Rattle.nz_machine.specs.runs.Events.{accepted_by, sent_after, sent_by, client_events, events}
 use Rattle.nz_machine.specs.runs.OneHistory.{Precedes}
 use Rattle.nz_machine.proofs.runs.Runs.{acts_itself, has_left, has_right, has_split}

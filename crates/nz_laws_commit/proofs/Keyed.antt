@@ -20,7 +20,8 @@ use Rattle.nz_log.specs.Places.{place_of}
 use Rattle.nz_machine.specs.declared.event.Record.{Record}
 use Rattle.nz_machine.specs.rules.State.{Group}
 use Rattle.nz_machine.specs.runs.World.{Has, World}
-use Rattle.nz_machine.specs.runs.Events.{Sent, client_events, events}
+use Rattle.nz_machine.specs.declared.client_event.ClientEvent.TheVariants.{Sent}
+use Rattle.nz_machine.specs.runs.Events.{client_events, events}
 use Rattle.nz_machine.specs.runs.OneHistory.{Precedes}
 use Rattle.nz_machine.specs.runs.Leading.{leader_at, is_led, lead}
 use Rattle.nz_machine.specs.runs.Begun.{begins, earlier_or, start}

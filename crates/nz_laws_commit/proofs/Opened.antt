@@ -16,7 +16,9 @@ use Rattle.nz_machine.specs.declared.event.Record.{Record}
 use Rattle.nz_machine.specs.rules.State.{ClientData, Group}
 use Rattle.nz_machine.specs.rules.Step.{script_of, accepted_envelope, envelope_step, event_step}
 use Rattle.nz_machine.specs.runs.World.{state_after}
-use Rattle.nz_machine.specs.runs.Events.{ClientEvent, Sent, Accepted, id_at, read_in, accepted_in, accepted_by, sent_after, sent_by, client_events, events}
+use Rattle.nz_machine.specs.declared.client_event.ClientEvent.{ClientEvent}
+use Rattle.nz_machine.specs.declared.client_event.ClientEvent.TheVariants.{Sent, Accepted}
+use Rattle.nz_machine.specs.runs.Events.{id_at, read_in, accepted_in, accepted_by, sent_after, sent_by, client_events, events}
 use Rattle.nz_machine.proofs.runs.Runs.{acts_itself, stays}
 use Rattle.nz_machine.proofs.journals.InTurn.{InTurn, tick_fills}
 use Rattle.nz_machine.proofs.journals.Accepting.{client_accepts}

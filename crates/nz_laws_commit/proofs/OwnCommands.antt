@@ -23,7 +23,9 @@ use Rattle.nz_machine.specs.runs.Hearing.{Heard}
 use Rattle.nz_machine.specs.runs.Shows.{ReplicaShows, ProxyShows}
 use Rattle.nz_machine.specs.rules.Step.{first, script_of, replica_message, message_step, tick_rule, tick_step, alarm_step, crash_step, restart_step}
 use Rattle.nz_machine.specs.runs.World.{state_after, Has, World}
-use Rattle.nz_machine.specs.runs.Events.{ClientEvent, Sent, id_at, client_events, events}
+use Rattle.nz_machine.specs.declared.client_event.ClientEvent.{ClientEvent}
+use Rattle.nz_machine.specs.declared.client_event.ClientEvent.TheVariants.{Sent}
+use Rattle.nz_machine.specs.runs.Events.{id_at, client_events, events}
 use Rattle.nz_machine.proofs.runs.Runs.{group_of, KeepsMore, holds, keeps_both, all_has, has_left}
 use Rattle.nz_machine.proofs.lists.EachItem.{all_filter, all_imply}
 use Rattle.nz_machine.proofs.moves.Moves.{Brings}

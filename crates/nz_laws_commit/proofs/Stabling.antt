@@ -12,7 +12,7 @@ use Rattle.nz_base.specs.declared.key.Entry.{Entry}
 use Rattle.nz_base.proofs.Moments.{at_then, at_tail}
 use Rattle.nz_base.proofs.Prefixes.{prefix_self, prefix_then, comparable_back, comparable_prefix}
 use Rattle.nz_machine.specs.declared.event.Record.{Record}
-use Rattle.nz_machine.specs.runs.Events.{Sent}
+use Rattle.nz_machine.specs.declared.client_event.ClientEvent.TheVariants.{Sent}
 use Rattle.nz_machine.specs.rules.State.{ReplicaData, Group}
 use Rattle.nz_machine.specs.rules.Replicas.{is_up}
 use Rattle.nz_machine.specs.runs.World.{Has, World}

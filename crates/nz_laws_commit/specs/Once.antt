@@ -5,7 +5,8 @@ use Rattle.nz_base.specs.declared.key.Id.{Id}
 use Rattle.nz_store.specs.declared.command.Answer.{Answer}
 use Rattle.nz_msg.specs.declared.message.Path.{Path}
 use Rattle.nz_machine.specs.runs.World.{Has}
-use Rattle.nz_machine.specs.runs.Events.{ClientEvent, Sent, Accepted}
+use Rattle.nz_machine.specs.declared.client_event.ClientEvent.{ClientEvent}
+use Rattle.nz_machine.specs.declared.client_event.ClientEvent.TheVariants.{Sent, Accepted}
 use Rattle.nz_machine.specs.runs.OneHistory.{Precedes}
 
 -- How many requests of the client were sent.

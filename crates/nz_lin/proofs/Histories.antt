@@ -11,7 +11,9 @@ use Rattle.nz_machine.specs.declared.event.Event.TheVariants.{Deliver}
 use Rattle.nz_machine.specs.declared.event.Record.{Record}
 use Rattle.nz_machine.specs.rules.State.{Group}
 use Rattle.nz_machine.specs.runs.World.{Has, World}
-use Rattle.nz_machine.specs.runs.Events.{ClientEvent, Sent, Accepted, client_events, events}
+use Rattle.nz_machine.specs.declared.client_event.ClientEvent.{ClientEvent}
+use Rattle.nz_machine.specs.declared.client_event.ClientEvent.TheVariants.{Sent, Accepted}
+use Rattle.nz_machine.specs.runs.Events.{client_events, events}
 use Rattle.nz_machine.specs.runs.History.{prefix_in, longer, history}
 use Rattle.nz_machine.specs.rules.Quorums.{view_of}
 use Rattle.nz_machine.specs.runs.OneHistory.{Precedes, IsAccepted}

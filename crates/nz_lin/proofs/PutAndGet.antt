@@ -33,7 +33,8 @@ use Rattle.nz_machine.specs.rules.Quorums.{decision}
 use Rattle.nz_machine.specs.rules.Replicas.{commands}
 use Rattle.nz_machine.specs.rules.Step.{envelope_for}
 use Rattle.nz_machine.specs.runs.World.{state_after, Has, IsGroup, World}
-use Rattle.nz_machine.specs.runs.Events.{Sent, Accepted, events}
+use Rattle.nz_machine.specs.declared.client_event.ClientEvent.TheVariants.{Sent, Accepted}
+use Rattle.nz_machine.specs.runs.Events.{events}
 use Rattle.nz_machine.specs.runs.History.{source, decision_moment, accepted_prefix, history}
 use Rattle.nz_machine.specs.runs.OneHistory.{NoCollision}
 use Rattle.nz_lin.specs.Replied.{replied_lists}

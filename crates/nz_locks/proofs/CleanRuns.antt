@@ -16,7 +16,9 @@ use Rattle.nz_machine.specs.declared.event.Record.{Record}
 use Rattle.nz_machine.specs.rules.State.{ClientData, Group}
 use Rattle.nz_machine.specs.rules.Step.{script_of}
 use Rattle.nz_machine.specs.runs.World.{state_after, Has, IsGroup, IsMember, World}
-use Rattle.nz_machine.specs.runs.Events.{ClientEvent, Sent, Accepted, id_at, command_of_request, read_in, accepted_in}
+use Rattle.nz_machine.specs.declared.client_event.ClientEvent.{ClientEvent}
+use Rattle.nz_machine.specs.declared.client_event.ClientEvent.TheVariants.{Sent, Accepted}
+use Rattle.nz_machine.specs.runs.Events.{id_at, command_of_request, read_in, accepted_in}
 use Rattle.nz_machine.specs.runs.Events.{accepted_by, sent_after, sent_by, client_events, events}
 use Rattle.nz_machine.specs.runs.History.{history}
 use Rattle.nz_machine.proofs.runs.Runs.{all_has, group_of}

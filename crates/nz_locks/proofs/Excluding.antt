@@ -18,7 +18,8 @@ use Rattle.nz_store.specs.Sequence.{apply_bytes, store_from, store_after, answer
 use Rattle.nz_log.specs.Places.{place_of, IsPlace}
 use Rattle.nz_log.proofs.Placing.{place_only}
 use Rattle.nz_machine.specs.declared.journal.Executed.{Executed}
-use Rattle.nz_machine.specs.runs.Events.{ClientEvent, Sent, Accepted}
+use Rattle.nz_machine.specs.declared.client_event.ClientEvent.{ClientEvent}
+use Rattle.nz_machine.specs.declared.client_event.ClientEvent.TheVariants.{Sent, Accepted}
 use Rattle.nz_machine.specs.journals.Journals.{executed_entries}
 use Rattle.nz_machine.specs.runs.OneHistory.{Lin, Precedes, IsAnswered}
 use Rattle.nz_machine.specs.rules.Replicas.{commands}

@@ -9,7 +9,8 @@ use Rattle.nz_store.specs.Sequence.{store_after}
 use Rattle.nz_log.specs.Places.{place_of}
 use Rattle.nz_msg.specs.declared.message.Path.{Path}
 use Rattle.nz_machine.specs.declared.journal.Executed.{Executed}
-use Rattle.nz_machine.specs.runs.Events.{ClientEvent, Sent, Accepted}
+use Rattle.nz_machine.specs.declared.client_event.ClientEvent.{ClientEvent}
+use Rattle.nz_machine.specs.declared.client_event.ClientEvent.TheVariants.{Sent, Accepted}
 use Rattle.nz_machine.specs.journals.Journals.{executed_entries}
 use Rattle.nz_machine.specs.runs.OneHistory.{Precedes, IsAnswered}
 use Rattle.nz_machine.specs.rules.Replicas.{commands}

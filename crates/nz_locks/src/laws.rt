@@ -3,7 +3,7 @@ ghost use Rattle.std.specs.Prelude.{List};
 ghost use Rattle.nz_base.specs.declared.key.Entry.{Entry};
 ghost use Rattle.nz_machine.specs.declared.event.Record.{Record};
 ghost use Rattle.nz_machine.specs.rules.State.{Group};
-ghost use Rattle.nz_machine.specs.runs.Events.{ClientEvent};
+ghost use Rattle.nz_machine.specs.declared.client_event.ClientEvent.{ClientEvent};
 ghost use Rattle.nz_machine.specs.runs.History.{history};
 ghost use Rattle.nz_machine.specs.runs.OneHistory.{Lin};
 ghost use Rattle.nz_machine.specs.runs.World.{World};

@@ -2,7 +2,7 @@
 pub mod InTurn
 pub mod Accepting
 pub mod Rows
-pub mod ProgressIsTold
-pub mod TellingsOfRuns
+pub mod EventsAreRead
+pub mod NotedEvents
 pub mod NewRequests
 pub mod JournalPrefixes

@@ -2,6 +2,6 @@
 pub mod Records
 pub mod Journals
 pub mod ClientProgress
-pub mod Tellings
+pub mod EventNotes
 pub mod Links
 pub mod LinksFall

@@ -1,24 +1,22 @@
 //! The events of clients, read off the records of a run.
-ghost use Rattle.std.specs.Prelude.{◌≡◌, ◌<◌, ◌∷◌, ◌++◌, [], ℕ, List, length, map, IfOk, OnOk, IfSome, IfNone, IsTrue, None, ◌==◌, not, filter};
+ghost use Rattle.std.specs.Prelude.{◌≡◌, ◌<◌, ◌∷◌, ◌++◌, [], ℕ, List as Listed, length, map, IfOk, OnOk, IfSome, IfNone, ◌==◌, not, filter};
 ghost use Rattle.std.specs.List.{list_any};
 ghost use Rattle.nz_base.specs.declared.actor.Actor.TheVariants as actors;
 ghost use Rattle.nz_msg.specs.declared.message.Message.TheVariants as messages;
-ghost use Rattle.nz_machine.specs.runs.Events.{id_at};
+ghost use Rattle.nz_machine.specs.runs.Events.{id_at, script_command, client_events};
 ghost use Rattle.nz_machine.specs.runs.Schedule.{group_of};
-ghost use Rattle.nz_machine.specs.rules.State.{Group};
+ghost use Rattle.nz_machine.specs.rules.Step.{script_of};
 ghost use Rattle.nz_machine.specs.journals.ClientProgress as client_progress;
-ghost use Rattle.nz_machine.specs.journals.ClientProgress.{Progress as ProgressModel};
-ghost use Rattle.nz_machine.specs.journals.ClientProgress.{first_progress, AreAfter, IsNoneOf, acceptance_in, acceptance_read, acceptance_of};
-ghost use Rattle.nz_machine.specs.journals.ClientProgress.{with_answer, new_in, with_num, new_among, with_all, after_client_record};
-ghost use Rattle.nz_machine.specs.journals.Tellings.{nothing_told, telling_in};
+ghost use Rattle.nz_machine.specs.journals.ClientProgress.{first_progress, AreAfter, IsNoneOf, answer_in, answer_read, answer_of};
+ghost use Rattle.nz_machine.specs.journals.ClientProgress.{with_answer, acceptance, new_in, with_num, new_among, with_all, after_client_record};
 ghost use Rattle.nz_machine.specs.runs.World.{World};
 ghost use Rattle.nz_machine.specs.declared.event.Record.{Record as RecordModel};
 
+use super::client_event::ClientEvent;
 use super::event::{Event, Record, SharedParcel};
 use super::receiving::heard;
-use nz_base::{Actor, Id, IdList, NoMemory, Scenario};
-use nz_msg::{AnswerBody, DecodeRefusal, Envelope, Message, Path, decode};
-use nz_store::Answer;
+use nz_base::{Actor, Blob, Id, List, NoMemory, Request, Scenario, TryCopy};
+use nz_msg::{AnswerBody, DecodeRefusal, Envelope, Message, decode};
 use std::alloc::Global;
 use std::marker::Model;
 
@@ -35,22 +33,6 @@ impl Model for Progress {
     ghost Value = { ProgressModel };
 
     ghost view = { λ p. record { sent = p.sent; waiting = p.waiting.items } };
-}
-
-/// An answer that a client accepted.
-#[derive(Debug, Drop)]
-pub struct Acceptance {
-    pub id: Id,
-    pub answer: Answer,
-    pub path: Path,
-}
-
-/// What a record says: an acceptance, and after it the requests that were sent for the first time.
-#[derive(Debug, Drop)]
-pub struct Telling {
-    pub accepted: Option<Acceptance>,
-    /// In rising number. Their commands are those of the client's script.
-    pub sent: IdList,
 }
 
 /// How far each client of a run is.
@@ -88,9 +70,9 @@ impl Progress {
         }
     }
 
-    /// The acceptance of the answer that was heard, where it is to an open request.
-    fn accept(&self, client: u8, envelope: Option<Envelope>) -> Option<Acceptance>
-        ensures { result ≡ acceptance_read client self.now envelope }
+    /// The answer that was heard, where it is to an open request.
+    fn answer_in(&self, envelope: Option<Envelope>) -> Option<AnswerBody>
+        ensures { result ≡ answer_read self.now envelope }
     {
         let Some(envelope) = envelope else {
             return None;
@@ -99,23 +81,20 @@ impl Progress {
             return None;
         };
         match envelope.message {
-            Message::Answer(body) => self.accept_answer(client, body),
+            Message::Answer(body) => self.if_waiting(body),
             _ => None,
         }
     }
 
-    /// The acceptance of an answer, where it is to an open request.
-    fn accept_answer(&self, client: u8, body: AnswerBody) -> Option<Acceptance>
-        ensures { (q : ℕ) → result ≡ acceptance_in client self.now (actors.Proxy q) (messages.Answer body) }
+    /// The answer, where it is to an open request.
+    fn if_waiting(&self, body: AnswerBody) -> Option<AnswerBody>
+        ensures { (q : ℕ) → result ≡ answer_in self.now (actors.Proxy q) (messages.Answer body) }
     {
-        if !self.is_waiting(body.num) {
-            return None;
+        if self.is_waiting(body.num) {
+            Some(body)
+        } else {
+            None
         }
-        Some(Acceptance {
-            id: id_of(client, body.num),
-            answer: body.answer,
-            path: body.path,
-        })
     }
 
     fn is_waiting(&self, num: u32) -> bool
@@ -124,19 +103,38 @@ impl Progress {
         self.waiting.iter().any(|waiting| *waiting == num)
     }
 
-    /// What is accepted is no longer open.
-    fn note_answer(&mut self, accepted: &Option<Acceptance>)
-        ensures { self.new ≡ with_answer self.old accepted.now }
+    /// The client accepts the answer, if there is one. Its request is no longer open.
+    fn take_answer(
+        &mut self,
+        client: u8,
+        answer: Option<AnswerBody>,
+        events: &mut List<ClientEvent>,
+    ) -> Result<(), NoMemory>
+        ensures after { OnOk result (self.new ≡ with_answer self.old answer) }
+        ensures event { OnOk result (events.new ≡ events.old ++ acceptance client answer) }
     {
-        if let Some(acceptance) = accepted {
-            drop_num(&mut self.waiting, acceptance.id.num);
-        }
+        let Some(AnswerBody { num, answer, path }) = answer else {
+            return Ok(());
+        };
+        drop_num(&mut self.waiting, num);
+        events.push(ClientEvent::Accepted {
+            id: id_of(client, num),
+            answer,
+            path,
+        })
     }
 
     /// A request with this number was sent, which may be new.
-    fn note_num(&mut self, client: u8, num: Option<u32>, ids: &mut IdList) -> Result<(), NoMemory>
+    fn note_num(
+        &mut self,
+        alloc: Global,
+        client: u8,
+        script: &[Request],
+        num: Option<u32>,
+        events: &mut List<ClientEvent>,
+    ) -> Result<(), NoMemory>
         ensures after { OnOk result (self.new ≡ with_num self.old num) }
-        ensures new { OnOk result (ids.new ≡ ids.old ++ new_in client self.old num) }
+        ensures new { OnOk result (events.new ≡ events.old ++ new_in client script.now self.old num) }
     {
         let Some(num) = num else {
             return Ok(());
@@ -144,27 +142,52 @@ impl Progress {
         if num <= self.sent {
             return Ok(());
         }
-        ids.push(id_of(client, num))?;
+        events.push(ClientEvent::Sent {
+            id: id_of(client, num),
+            command: command_at(alloc, script, num)?,
+        })?;
         self.waiting.push(num)?;
         self.sent = num;
         Ok(())
     }
 
-    /// The new requests among those that were sent.
+    /// Adds the new requests among those that were sent.
     fn note_sends(
         &mut self,
         alloc: Global,
         client: u8,
+        script: &[Request],
         sends: &[SharedParcel],
-    ) -> Result<IdList, NoMemory>
+        events: &mut List<ClientEvent>,
+    ) -> Result<(), NoMemory>
         ensures after { OnOk result (self.new ≡ with_all self.old (map client_progress.num_of sends.now)) }
-        ensures new { IfOk result (λ ids. ids ≡ new_among client self.old (map client_progress.num_of sends.now)) }
+        ensures new { OnOk result (events.new ≡ events.old ++ new_among client script.now self.old (map client_progress.num_of sends.now)) }
     {
-        let mut ids = IdList::new(alloc);
         for parcel in sends {
-            self.note_num(client, num_of(alloc, parcel)?, &mut ids)?;
+            let num = num_of(alloc, parcel)?;
+            self.note_num(alloc, client, script, num, events)?;
         }
-        Ok(ids)
+        Ok(())
+    }
+}
+
+/// The script of the client, no requests where there is none.
+fn script_at(scenario: &Scenario, client: u8) -> &[Request]
+    ensures { result.now ≡ script_of (group_of scenario.now) client }
+{
+    match scenario.scripts.as_slice().get(client as usize) {
+        None => &[],
+        Some(script) => script.as_slice(),
+    }
+}
+
+/// The command of the client's request with this number, no bytes where there is none.
+fn command_at(alloc: Global, script: &[Request], num: u32) -> Result<Blob, NoMemory>
+    ensures { IfOk result (λ command. command ≡ script_command script.now num) }
+{
+    match script.get(num.saturating_sub(1) as usize) {
+        None => Ok(Blob::from_vec(Vec::new(alloc))),
+        Some(request) => request.command.copy(alloc),
     }
 }
 
@@ -194,15 +217,15 @@ fn answer_of(
     client: u8,
     progress: &Progress,
     event: &Event,
-) -> Result<Option<Acceptance>, NoMemory>
-    ensures { IfOk result (λ accepted. accepted ≡ acceptance_of client progress.now event.now) }
+) -> Result<Option<AnswerBody>, NoMemory>
+    ensures { IfOk result (λ answer. answer ≡ answer_of client progress.now event.now) }
 {
     match event {
         Event::Deliver(parcel) => {
             let parcel = parcel.get();
             let decoded = decode(alloc, &parcel.frame);
             match heard(Actor::Client(client), parcel, &decoded)? {
-                Some(_) => Ok(progress.accept(client, decoded.ok())),
+                Some(_) => Ok(progress.answer_in(decoded.ok())),
                 None => Ok(None),
             }
         }
@@ -212,28 +235,22 @@ fn answer_of(
     }
 }
 
-/// What a record of the client says.
+/// The events of a record of the client.
 fn read(
     alloc: Global,
     client: u8,
+    script: &[Request],
     progress: &mut Progress,
     next: &Record,
-) -> Result<Telling, NoMemory>
-    ensures told { IfOk result (λ telling. telling ≡ (after_client_record client progress.old next.now.event next.now.sends).0) }
-    ensures after { OnOk result (progress.new ≡ (after_client_record client progress.old next.now.event next.now.sends).1) }
+) -> Result<List<ClientEvent>, NoMemory>
+    ensures events { IfOk result (λ events. events ≡ (after_client_record client script.now progress.old next.now.event next.now.sends).0) }
+    ensures after { OnOk result (progress.new ≡ (after_client_record client script.now progress.old next.now.event next.now.sends).1) }
 {
-    let accepted = answer_of(alloc, client, progress, &next.event)?;
-    progress.note_answer(&accepted);
-    let sent = progress.note_sends(alloc, client, next.sends.as_slice())?;
-    Ok(Telling { accepted, sent })
-}
-
-/// Whether nothing came whole to the actor, and it sent nothing.
-fn is_silent(next: &Record) -> bool
-    ensures sends { IsTrue result → next.now.sends ≡ [] }
-    ensures accepted { IsTrue result → (client : ℕ) (progress : ProgressModel) → acceptance_of client progress next.now.event ≡ None }
-{
-    next.sends.is_empty() && !matches!(next.event, Event::Deliver(_))
+    let mut events = List::new(alloc);
+    let answer = answer_of(alloc, client, progress, &next.event)?;
+    progress.take_answer(client, answer, &mut events)?;
+    progress.note_sends(alloc, client, script, next.sends.as_slice(), &mut events)?;
+    Ok(events)
 }
 
 impl Clients {
@@ -266,42 +283,41 @@ impl Clients {
         }
     }
 
-    /// Whether the next record of a run, of which the earlier ones were read, tells nothing.
-    pub fn tells_nothing(&self, next: &Record) -> bool
-        ensures told { IsTrue result → (g : Group) (J : List RecordModel) → World g (next.now ∷ J)
-            → AreAfter g J self.now → telling_in g next.now.actor next.now J ≡ nothing_told }
-        ensures after { IsTrue result → (g : Group) (J : List RecordModel) → World g (next.now ∷ J) → AreAfter g J self.now → AreAfter g (next.now ∷ J) self.now }
-    {
-        match self.number_of(next.actor) {
-            Some(_) => is_silent(next),
-            None => true,
-        }
-    }
-
-    /// What the next record says, which is of this client.
-    fn tell_own(&mut self, alloc: Global, client: u8, next: &Record) -> Result<Telling, NoMemory>
+    /// The events of the next record, which is of this client.
+    fn read_own(
+        &mut self,
+        alloc: Global,
+        scenario: &Scenario,
+        client: u8,
+        next: &Record,
+    ) -> Result<List<ClientEvent>, NoMemory>
         requires actor { next.now.actor ≡ actors.Client client }
         requires there { client < length self.old }
-        ensures told { IfOk result (λ telling. (g : Group) (J : List RecordModel) → World g (next.now ∷ J)
-            → AreAfter g J self.old → telling ≡ telling_in g next.now.actor next.now J) }
-        ensures after { OnOk result ((g : Group) (J : List RecordModel) → World g (next.now ∷ J) → AreAfter g J self.old → AreAfter g (next.now ∷ J) self.new) }
+        ensures events { let g = group_of scenario.now in IfOk result (λ events. (J : Listed RecordModel) → World g (next.now ∷ J)
+            → AreAfter g J self.old → events ≡ client_events g next.now.actor next.now J) }
+        ensures after { let g = group_of scenario.now in OnOk result ((J : Listed RecordModel) → World g (next.now ∷ J)
+            → AreAfter g J self.old → AreAfter g (next.now ∷ J) self.new) }
     {
+        let script = script_at(scenario, client);
         let place = client as usize;
-        read(alloc, client, &mut self.progress[place], next)
+        read(alloc, client, script, &mut self.progress[place], next)
     }
 
-    /// What the next record of a run says, of which the earlier ones were read.
-    pub fn tell(&mut self, alloc: Global, next: &Record) -> Result<Telling, NoMemory>
-        ensures told { IfOk result (λ telling. (g : Group) (J : List RecordModel) → World g (next.now ∷ J)
-            → AreAfter g J self.old → telling ≡ telling_in g next.now.actor next.now J) }
-        ensures after { OnOk result ((g : Group) (J : List RecordModel) → World g (next.now ∷ J) → AreAfter g J self.old → AreAfter g (next.now ∷ J) self.new) }
+    /// The events of the next record of a run of the scenario, of which the earlier ones were read.
+    pub fn read(
+        &mut self,
+        alloc: Global,
+        scenario: &Scenario,
+        next: &Record,
+    ) -> Result<List<ClientEvent>, NoMemory>
+        ensures events { let g = group_of scenario.now in IfOk result (λ events. (J : Listed RecordModel) → World g (next.now ∷ J)
+            → AreAfter g J self.old → events ≡ client_events g next.now.actor next.now J) }
+        ensures after { let g = group_of scenario.now in OnOk result ((J : Listed RecordModel) → World g (next.now ∷ J)
+            → AreAfter g J self.old → AreAfter g (next.now ∷ J) self.new) }
     {
         match self.number_of(next.actor) {
-            Some(client) => self.tell_own(alloc, client, next),
-            None => Ok(Telling {
-                accepted: None,
-                sent: IdList::new(alloc),
-            }),
+            Some(client) => self.read_own(alloc, scenario, client, next),
+            None => Ok(List::new(alloc)),
         }
     }
 }

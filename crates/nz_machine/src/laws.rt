@@ -35,7 +35,7 @@ ghost use Rattle.nz_machine.specs.declared.event.Parcel.{Parcel};
 ghost use Rattle.nz_machine.specs.declared.event.Record.{Record};
 ghost use Rattle.nz_machine.specs.runs.Events.{events};
 ghost use Rattle.nz_machine.specs.rules.State.{ReplicaData, Group};
-ghost use Rattle.nz_machine.specs.journals.Tellings.{told_by_run, events_of_told};
+ghost use Rattle.nz_machine.specs.journals.EventNotes.{events_at, events_alone};
 ghost use Rattle.nz_machine.specs.runs.World.{World, sent_in, Has, IsMember};
 ghost use Rattle.nz_machine.specs.runs.Schedule.{group_of, Scheduled, IsPlayable};
 ghost use Rattle.nz_machine.specs.runs.Steps.{AreSteps};
@@ -120,9 +120,9 @@ pub fn receivers_take_part()
     ensures { (g : Group) (J : List Record) (parcel : Parcel) → World g J → Has (sent_in J) parcel → IsMember g parcel.to }
 {}
 
-/// What the records of a run tell is what its clients see.
-pub fn events_are_told()
-    ensures { (g : Group) (J : List Record) → World g J → events_of_told g (told_by_run g J) ≡ events g J }
+/// The events that are read off the records of a run are those of its clients.
+pub fn events_are_read()
+    ensures { (g : Group) (J : List Record) → events_alone (events_at g J) ≡ events g J }
 {}
 
 /// The records of a schedule of the scenario, each with what its actor sends, are a run of the world.

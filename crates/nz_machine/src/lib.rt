@@ -20,11 +20,13 @@
 mod adopting;
 mod answers;
 mod buffers;
+mod client_event;
 mod client_progress;
 mod commit_quorum;
 mod cores;
 mod data;
 mod event;
+mod event_notes;
 mod forgotten;
 mod frame_kind;
 mod from_cluster;
@@ -40,19 +42,20 @@ mod reports;
 mod sends;
 mod state;
 mod sync_keys;
-mod tellings;
 
 pub use answers::copy_answer;
-pub use client_progress::{Acceptance, Clients, Progress, Telling};
+pub use client_event::{ClientEvent, EventAt, EventList};
+pub use client_progress::{Clients, Progress};
 pub use cores::Core;
 pub use data::{Attempt, Origin, Phase, Rejoin, Reported, Status, ToldView};
 pub use event::{Event, Parcel, Record, SharedParcel};
+pub use event_notes::{Notes, client_events_in};
 pub use forgotten::Forgotten;
 pub use frame_kind::kind_of;
 pub use from_cluster::is_from_cluster;
 pub use journal::{Executed, History, Item, Journal};
 pub use laws::{
-    due_entries_are_released, events_are_told, facts_are_kept, lanes_are_a_run,
+    due_entries_are_released, events_are_read, facts_are_kept, lanes_are_a_run,
     receivers_take_part, scheduled_steps_are_a_run,
 };
 pub use outbox::Outbox;
@@ -61,4 +64,3 @@ pub use records::{RecordList, RecordRef, Recording};
 pub use reply::{Reply, ReplyList};
 pub use sends::Sends;
 pub use state::ReplicaState;
-pub use tellings::{Notes, ToldAt, ToldList, told_in};

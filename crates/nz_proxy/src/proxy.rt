@@ -83,14 +83,9 @@ impl ProxyState {
             OnOk result (ProxyDoes s self.new sends.old sends.new
             (proxies.reply_rule s.f s.state replica body.id body.delay (of_fast replica body))) }
     {
-        let reply = Reply::Fast {
-            replica,
-            view: body.view,
-            digest: body.digest,
-            vector: body.vector,
-            answer: body.answer,
-        };
-        self.reply_rule(replica, body.id, body.delay, reply, sends)
+        let (id, delay) = (body.id, body.delay);
+        let reply = Reply::from_fast(replica, body);
+        self.reply_rule(replica, id, delay, reply, sends)
     }
 
     fn take_slow(
@@ -105,10 +100,7 @@ impl ProxyState {
             OnOk result (ProxyDoes s self.new sends.old sends.new
             (proxies.reply_rule s.f s.state replica body.id body.delay (of_slow replica body))) }
     {
-        let reply = Reply::Slow {
-            replica,
-            view: body.view,
-        };
+        let reply = Reply::from_slow(replica, &body);
         self.reply_rule(replica, body.id, body.delay, reply, sends)
     }
 

@@ -17,7 +17,9 @@ use Rattle.nz_machine.specs.declared.data.Attempt.{Attempt}
 use Rattle.nz_machine.specs.rules.State.{ClientData, Group, Out}
 use Rattle.nz_machine.specs.rules.Clients.{last_tick, fill_window, is_overdue, attempt_after_wait, retry, request_again, retries, after_wait, wait_rule}
 use Rattle.nz_machine.specs.rules.Clients.{is_open, without_attempt, after_acceptance, accept_rule}
-use Rattle.nz_machine.specs.runs.Events.{ClientEvent, Sent, Accepted, id_at, accepted_in, sent_after, sent_by}
+use Rattle.nz_machine.specs.declared.client_event.ClientEvent.{ClientEvent}
+use Rattle.nz_machine.specs.declared.client_event.ClientEvent.TheVariants.{Sent, Accepted}
+use Rattle.nz_machine.specs.runs.Events.{id_at, accepted_in, sent_after, sent_by}
 use Rattle.nz_machine.specs.rules.Step.{script_of, tick_step, message_step}
 use Rattle.nz_machine.specs.runs.World.{Has}
 use Rattle.nz_machine.proofs.runs.Runs.{has_left, has_right, has_split}

@@ -10,7 +10,8 @@ use Rattle.nz_msg.specs.declared.message.Message.TheVariants as messages
 use Rattle.nz_machine.specs.declared.data.Attempt.{Attempt}
 use Rattle.nz_machine.specs.rules.State.{ClientData, Group, Out}
 use Rattle.nz_machine.specs.rules.Clients.{ask, if_due, after_opening, open_next, fill_places, fill_window}
-use Rattle.nz_machine.specs.runs.Events.{ClientEvent, script_command, command_of_request}
+use Rattle.nz_machine.specs.declared.client_event.ClientEvent.{ClientEvent}
+use Rattle.nz_machine.specs.runs.Events.{script_command, command_of_request}
 use Rattle.nz_machine.specs.rules.Step.{script_of}
 use Rattle.nz_machine.specs.runs.World.{Has}
 use Rattle.nz_machine.proofs.runs.Runs.{has_left, has_right}

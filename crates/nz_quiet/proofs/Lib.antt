@@ -31,5 +31,5 @@ pub mod QuietTicks
 pub mod QuietRuns
 pub mod Told
 pub mod Served
-pub mod PaceTold
+pub mod RunPaces
 pub mod PaceParts

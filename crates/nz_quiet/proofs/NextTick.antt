@@ -11,7 +11,8 @@ use Rattle.nz_buffers.specs.Buffers.{held_back}
 use Rattle.nz_msg.specs.declared.message.FastReplyBody.{FastReplyBody}
 use Rattle.nz_msg.specs.declared.message.Message.TheVariants as messages
 use Rattle.nz_machine.specs.declared.event.Record.{Record}
-use Rattle.nz_machine.specs.runs.Events.{ClientEvent, sent_by}
+use Rattle.nz_machine.specs.declared.client_event.ClientEvent.{ClientEvent}
+use Rattle.nz_machine.specs.runs.Events.{sent_by}
 use Rattle.nz_machine.specs.rules.State.{ReplicaData, Open, Group, Out}
 use Rattle.nz_machine.specs.rules.Step.{tick_step, script_of}
 use Rattle.nz_machine.specs.runs.World.{state_after, Has, IsGroup, IsMember}

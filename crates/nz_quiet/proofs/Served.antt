@@ -16,7 +16,9 @@ use Rattle.nz_msg.specs.declared.message.Message.TheVariants as messages
 use Rattle.nz_msg.specs.declared.message.Path.TheVariants.{Fast}
 use Rattle.nz_machine.specs.declared.data.Attempt.{Attempt}
 use Rattle.nz_machine.specs.declared.event.Record.{Record}
-use Rattle.nz_machine.specs.runs.Events.{ClientEvent, Sent, Accepted, id_at}
+use Rattle.nz_machine.specs.declared.client_event.ClientEvent.{ClientEvent}
+use Rattle.nz_machine.specs.declared.client_event.ClientEvent.TheVariants.{Sent, Accepted}
+use Rattle.nz_machine.specs.runs.Events.{id_at}
 use Rattle.nz_machine.specs.runs.Schedule.{group_of, InOrderTo, InOrder, IsTick, IsPlayable}
 use Rattle.nz_machine.specs.rules.State.{Group, Out}
 use Rattle.nz_machine.specs.runs.Steps.{AreSteps}

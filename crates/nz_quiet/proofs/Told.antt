@@ -14,7 +14,8 @@ use Rattle.nz_machine.specs.declared.event.Event.TheVariants.{Tick}
 use Rattle.nz_machine.specs.declared.event.Record.{Record}
 use Rattle.nz_machine.specs.declared.journal.Item.{Item}
 use Rattle.nz_machine.specs.rules.State.{ClientData, State, Group, Out}
-use Rattle.nz_machine.specs.runs.Events.{ClientEvent, accepted_by, sent_by, read_in, client_events}
+use Rattle.nz_machine.specs.declared.client_event.ClientEvent.{ClientEvent}
+use Rattle.nz_machine.specs.runs.Events.{accepted_by, sent_by, read_in, client_events}
 use Rattle.nz_machine.specs.runs.Schedule.{item_of}
 use Rattle.nz_machine.specs.rules.Step.{event_step, envelope_step, script_of}
 use Rattle.nz_machine.specs.runs.World.{state_after, Has, IsMember, World}

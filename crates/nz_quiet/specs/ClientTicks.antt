@@ -8,7 +8,9 @@ use Rattle.nz_msg.specs.declared.message.Path.TheVariants as paths
 use Rattle.nz_msg.specs.declared.message.Message.TheVariants as messages
 use Rattle.nz_machine.specs.declared.data.Attempt.{Attempt}
 use Rattle.nz_machine.specs.rules.State.{ClientData, Group, Out}
-use Rattle.nz_machine.specs.runs.Events.{ClientEvent, Sent, Accepted, id_at, script_command, accepted_in, sent_by}
+use Rattle.nz_machine.specs.declared.client_event.ClientEvent.{ClientEvent}
+use Rattle.nz_machine.specs.declared.client_event.ClientEvent.TheVariants.{Sent, Accepted}
+use Rattle.nz_machine.specs.runs.Events.{id_at, script_command, accepted_in, sent_by}
 use Rattle.nz_machine.specs.rules.Step.{script_of, message_step}
 use Rattle.nz_machine.specs.runs.World.{Has}
 use Rattle.nz_quiet.specs.Words.{Word}

@@ -6,14 +6,18 @@ use Rattle.std.specs.List.{flat_map, range_with_len}
 use Rattle.std.specs.Map.{lookup}
 use Rattle.nz_base.specs.Key.{id_eq}
 use Rattle.nz_base.specs.declared.key.Id.{Id}
-use Rattle.nz_machine.specs.runs.Events.{ClientEvent, Sent, Accepted}
+use Rattle.nz_machine.specs.declared.client_event.ClientEvent.{ClientEvent}
+use Rattle.nz_machine.specs.declared.client_event.ClientEvent.TheVariants.{Sent, Accepted}
 use Rattle.nz_machine.specs.rules.State.{Group}
-use Rattle.nz_machine.specs.declared.client_progress.Acceptance.{Acceptance}
+use Rattle.nz_machine.specs.declared.client_event.EventAt.{EventAt}
 use Rattle.nz_machine.specs.declared.event.Record.{Record}
-use Rattle.nz_machine.specs.declared.tellings.ToldAt.{ToldAt}
 use Rattle.nz_quiet.specs.Quiet.{timed_events}
 
 -- ---- how many ticks
+
+-- The events with their ticks, without their places.
+abbrev pub timed : List EventAt → List (ℕ × ClientEvent)
+timed E = map (λ x. (x.tick, x.event)) E
 
 -- The request that an event sends, with the event's tick.
 abbrev pub sent_in : ℕ → ClientEvent → List (Id × ℕ)
@@ -92,22 +96,3 @@ lines_of_paces ps = ticks_lines ps ++ (open_line ps ++ codes "end\n")
 -- What is printed of a run's pace.
 abbrev pub pace_text : Group → List Record → List ℕ
 pace_text g J = lines_of_paces (paces (timed_events g J))
-
--- ---- what clients told
-
--- The request whose answer was accepted in this tick, if one was.
-abbrev pub told_accepted : ℕ → Option Acceptance → List (Id × ℕ)
-told_accepted tick None = []
-told_accepted tick (Some a) = (a.id, tick) ∷ []
-
--- The requests that were sent in this tick.
-abbrev pub told_sent : ℕ → List Id → List (Id × ℕ)
-told_sent tick ids = map (λ id. (id, tick)) ids
-
--- All whose answers were accepted, by what clients told.
-abbrev pub all_accepted : List ToldAt → List (Id × ℕ)
-all_accepted told = flat_map (λ t. told_accepted t.tick t.telling.accepted) told
-
--- All that were sent.
-abbrev pub all_sent : List ToldAt → List (Id × ℕ)
-all_sent told = flat_map (λ t. told_sent t.tick t.telling.sent) told

@@ -2,14 +2,13 @@
 ghost use Rattle.std.specs.Prelude.{◌≡◌, ◌++◌, ◌<◌, ◌+◌, ◌^◌, ◌==◌, ℕ, List, cond, length, max, count_by, get_or, IfOk, OnOk};
 ghost use Rattle.std.specs.List.{flat_map, range_with_len};
 ghost use Rattle.nz_machine.specs.rules.State.{Group};
-ghost use Rattle.nz_machine.specs.journals.Tellings.{told_by_run};
-ghost use Rattle.nz_machine.specs.runs.World.{World};
+ghost use Rattle.nz_machine.specs.journals.EventNotes.{events_at};
 ghost use Rattle.nz_machine.specs.declared.event.Record.{Record};
 ghost use Rattle.nz_quiet.specs.Pace.{took, above, above_all, ticks_line, ticks_lines, open_line, pace_text};
 
 use super::pace::paces;
 use nz_base::NoMemory;
-use nz_machine::ToldAt;
+use nz_machine::EventAt;
 use nz_script::{put, put_number};
 use std::alloc::Global;
 
@@ -91,12 +90,12 @@ fn put_paces(alloc: Global, out: &mut Vec<u8>, paces: &[Option<u32>]) -> Result<
     put_counts(out, &counts)
 }
 
-/// Writes a line `ticks N COUNT` for each number of ticks that requests of a run took, and how many are open, by what its
-/// clients told.
-pub fn put_pace(alloc: Global, out: &mut Vec<u8>, told: &[ToldAt]) -> Result<(), NoMemory>
-    ensures { OnOk result ((g : Group) (J : List Record) → World g J → told.now ≡ told_by_run g J → out.new.items ≡ out.old.items ++ pace_text g J) }
+/// Writes a line `ticks N COUNT` for each number of ticks that requests of the run with these events took, and how many
+/// are open.
+pub fn put_pace(alloc: Global, out: &mut Vec<u8>, events: &[EventAt]) -> Result<(), NoMemory>
+    ensures { OnOk result ((g : Group) (J : List Record) → events.now ≡ events_at g J → out.new.items ≡ out.old.items ++ pace_text g J) }
 {
-    let paces = paces(alloc, told)?;
+    let paces = paces(alloc, events)?;
     put_paces(alloc, out, paces.as_slice())?;
     put_open(out, paces.as_slice())?;
     put(out, b"end\n")

@@ -5,7 +5,7 @@ ghost use Rattle.nz_base.specs.Cluster.{replica_count};
 ghost use Rattle.nz_fabric.specs.alone.States.{IsDone, HasNoOpenItem};
 ghost use Rattle.nz_machine.specs.journals.Journals.{group_in, run_in};
 ghost use Rattle.nz_machine.specs.runs.Schedule.{group_of, InOrder, IsPlayable};
-ghost use Rattle.nz_machine.specs.journals.Tellings.{AreNoted};
+ghost use Rattle.nz_machine.specs.journals.EventNotes.{AreNoted};
 ghost use Rattle.nz_machine.specs.runs.World.{World};
 ghost use Rattle.nz_replica.specs.Models.{AreCores, IsCore};
 ghost use Rattle.nz_run.specs.Casts.{IsUnderWay};
@@ -103,7 +103,7 @@ impl Playing {
         self.alone.tick()
     }
 
-    /// Notes what the records of the last tick tell.
+    /// Notes the events of the last tick's records.
     pub fn note(&self, alloc: Global, notes: &mut Notes) -> Result<(), NoMemory>
         requires { IsAtEnd self.now }
         ensures { OnOk result (AreNoted (group_of (scenario_of self.now)) (earlier_of self.now) notes.old

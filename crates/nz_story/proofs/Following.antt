@@ -1,5 +1,5 @@
 -- What is known of a run goes on with each record.
-use Rattle.std.proofs.Common.{◌≡◌, ◌≢◌, ℕ, ◌+◌, ◌<◌, ◌≤◌, ◌⊎◌, inl, inr, true, false, List, [], ◌∷◌, ◌++◌, length, get_or, map, sym, ap, ◌∙◌, subst}
+use Rattle.std.proofs.Common.{◌≡◌, ◌≢◌, ℕ, ◌+◌, ◌<◌, ◌≤◌, ◌⊎◌, inl, inr, true, false, List, [], ◌∷◌, ◌++◌, length, get_or, sym, ap, ◌∙◌, subst}
 use Rattle.std.proofs.Common.{arith, length-append, append-nil, append_assoc, reverse, Some, take_all}
 use Rattle.std.specs.Prelude.{slice_get, slice_set}
 use Rattle.std.proofs.lemmas.Bool.{cases_lt, cases_eq}
@@ -10,18 +10,14 @@ use Rattle.nz_base.specs.Actor.{actor_eq}
 use Rattle.nz_base.specs.Cluster.{replica_count}
 use Rattle.nz_base.specs.declared.actor.Actor.{Actor}
 use Rattle.nz_base.specs.declared.actor.Actor.TheVariants.{Replica, Proxy, Client}
-use Rattle.nz_machine.specs.journals.ClientProgress.{AreAfter, events_of_telling}
-use Rattle.nz_machine.specs.runs.Events.{ClientEvent, client_events}
+use Rattle.nz_machine.specs.journals.ClientProgress.{AreAfter}
 use Rattle.nz_machine.specs.journals.Journals.{group_in, run_in}
 use Rattle.nz_machine.specs.rules.State.{Group, ReplicaData}
 use Rattle.nz_machine.specs.rules.Replicas.{first_replica}
-use Rattle.nz_machine.specs.journals.Tellings.{nothing_told, telling_in}
 use Rattle.nz_machine.specs.runs.World.{World, IsMember, state_after}
-use Rattle.nz_machine.specs.declared.client_progress.Telling.{Telling}
 use Rattle.nz_machine.specs.declared.event.Record.{Record}
 use Rattle.nz_machine.specs.declared.journal.Journal.{Journal}
 use Rattle.nz_machine.proofs.journals.JournalPrefixes.{world_with}
-use Rattle.nz_machine.proofs.journals.TellingsOfRuns.{telling_shows}
 use Rattle.nz_replica.specs.Models.{ReplicaCore, IsCore}
 use Rattle.nz_replay.specs.Runs.{run_up_to}
 use Rattle.nz_replay.proofs.Replays.{core_first, core_stays, run_then}
@@ -30,7 +26,7 @@ use Rattle.nz_story.specs.Fates.{sent_by_run}
 use Rattle.nz_story.specs.Known.{Known, known_of, line_between}
 use Rattle.nz_story.specs.States.{now_text}
 use Rattle.nz_story.specs.Passes.{counts_of}
-use Rattle.nz_story.specs.Story.{told_text, record_part, story}
+use Rattle.nz_story.specs.Story.{record_part, story}
 use Rattle.nz_story.specs.declared.story.Course.{Course}
 use Rattle.nz_story.specs.declared.story.Watched.{Watched}
 
@@ -102,18 +98,6 @@ pub nothing_became : (g : Group) (a : Actor) (r : Record) (J : List Record) (out
     → out ≡ out ++ now_text g a r J
 nothing_became g a r J out (inl is) = sym (append-nil out) ∙ ap (λ (b : Actor). out ++ now_text g b r J) (sym is.1)
 nothing_became g a r J out (inr is) = sym (append-nil out) ∙ ap (λ (b : Actor). out ++ now_text g b r J) (sym is.1)
-
--- ---- clients
-
--- what is told is what the client saw
-pub told_is : (g : Group) (r : Record) (J : List Record) (t : Telling) (old new : List ℕ) → World g (r ∷ J) → t ≡ telling_in g r.actor r J
-    → new ≡ old ++ told_text (events_of_telling g t) → new ≡ old ++ told_text (client_events g r.actor r J)
-told_is g r J t old new w is e =
-    e ∙ ap (λ (es : List ClientEvent). old ++ told_text es) (ap (events_of_telling g) is ∙ telling_shows g r J w)
-
-pub nothing_is : (g : Group) (r : Record) (J : List Record) (out : List ℕ) → World g (r ∷ J) → telling_in g r.actor r J ≡ nothing_told
-    → out ≡ out ++ told_text (client_events g r.actor r J)
-nothing_is g r J out w nothing = told_is g r J nothing_told out out w (sym nothing) (sym (append-nil out))
 
 -- ---- the record at a place
 

@@ -3,8 +3,6 @@
 ghost use Rattle.std.specs.Prelude.{◌≡◌, ◌∷◌, ◌++◌, [], ◌+◌, ◌<◌, ℕ, List, Some, true, length, slice_get, IfOk, OnOk};
 ghost use Rattle.nz_base.specs.Cluster.{replica_count};
 ghost use Rattle.nz_base.specs.declared.actor.Actor.TheVariants as actors;
-ghost use Rattle.nz_machine.specs.journals.ClientProgress.{AreAfter};
-ghost use Rattle.nz_machine.specs.runs.Events.{client_events};
 ghost use Rattle.nz_machine.specs.journals.Journals.{group_in, run_in};
 ghost use Rattle.nz_machine.specs.runs.Schedule.{group_of};
 ghost use Rattle.nz_machine.specs.rules.State.{Group};
@@ -13,10 +11,10 @@ ghost use Rattle.nz_machine.specs.declared.event.Record.{Record as RecordModel};
 ghost use Rattle.nz_replay.specs.Runs.{run_up_to};
 ghost use Rattle.nz_story.specs.Courses.{IsWatched, AreWatched, IsFollowed};
 ghost use Rattle.nz_story.specs.States.{now_text};
-ghost use Rattle.nz_story.specs.Story.{told_text, lines_under, part_of, record_part, story};
+ghost use Rattle.nz_story.specs.Story.{lines_under, part_of, record_part, story};
 
 use super::fates::Sent;
-use super::heads::{put_head, put_told};
+use super::heads::{put_events, put_head};
 use super::known::Known;
 use nz_base::{Actor, Cluster, NoMemory, Scenario};
 use nz_machine::{Clients, Event, Journal, Record};
@@ -98,27 +96,6 @@ impl Course {
     }
 }
 
-/// The clients take the next record. Writes what its client saw.
-fn put_events(
-    alloc: Global,
-    out: &mut Vec<u8>,
-    scenario: &Scenario,
-    clients: &mut Clients,
-    next: &Record,
-) -> Result<(), NoMemory>
-    ensures after { OnOk result ((J : List RecordModel) → World (group_of scenario.now) (next.now ∷ J)
-        → AreAfter (group_of scenario.now) J clients.old → AreAfter (group_of scenario.now) (next.now ∷ J) clients.new) }
-    ensures written { OnOk result ((J : List RecordModel) → World (group_of scenario.now) (next.now ∷ J) → AreAfter (group_of scenario.now) J clients.old
-        → out.new.items ≡ out.old.items ++ told_text (client_events (group_of scenario.now) next.now.actor next.now J)) }
-{
-    if clients.tells_nothing(next) {
-        return Ok(());
-    }
-    let telling = clients.tell(alloc, next)?;
-    put_told(alloc, out, scenario, &telling)?;
-    Ok(())
-}
-
 /// The replicas take the record at a place. Writes what became of its replica.
 fn put_replica(
     alloc: Global,
@@ -158,7 +135,8 @@ fn put_lines(
     ensures written { OnOk result (out.new.items ≡ out.old.items ++ lines_under journal.now.scenario next.now (run_up_to journal.now place)) }
 {
     let scenario = &journal.scenario;
-    put_events(alloc, out, scenario, &mut course.clients, next)?;
+    let events = course.clients.read(alloc, scenario, next)?;
+    put_events(out, events.as_slice())?;
     put_replica(alloc, out, journal, place, next, &mut course.replicas)?;
     let sends = next.sends.as_slice();
     course.sent.put_sends(out, scenario, next.tick, sends)?;

@@ -1,5 +1,5 @@
 -- The modules of this crate's proofs.
-mod Events
+mod RunsPrinted
 mod LongLines
 mod Opens
 mod Pieces

@@ -29,7 +29,7 @@ use Rattle.nz_machine.specs.declared.journal.Executed.{Executed}
 use Rattle.nz_text.specs.declared.draft.Draft.{Draft}
 use Rattle.nz_text.specs.declared.line.Line.{Line}
 use Rattle.nz_text.specs.declared.line.Line.TheVariants as line
-use Rattle.nz_text.specs.declared.printed.Event.TheVariants.{Send, Accept}
+use Rattle.nz_machine.specs.declared.client_event.ClientEvent.TheVariants.{Sent, Accepted}
 use Rattle.nz_text.specs.Fit.{FitsId, FitsAnswer}
 use Rattle.nz_text.specs.Text.{text_newline, id_text, found_text, answer_text, path_text, event_line, open_line, at_line}
 use Rattle.nz_text.specs.Reading.{pieces_in, number_in_digits, id_first, answer_first, path_of, alone, send_of, accept_of, answer_in_words}
@@ -221,15 +221,15 @@ path_again Slow = refl
 -- ---- lines
 
 send_says : (id : Id) (bytes : List ℕ) (h : IsCommand bytes) → FitsId id
-    → line_in_words (codes "send" ∷ client_word id.client ∷ decimal id.num ∷ command_words h.command) ≡ Some (line.Event (Send id bytes))
+    → line_in_words (codes "send" ∷ client_word id.client ∷ decimal id.num ∷ command_words h.command) ≡ Some (line.Event (Sent id bytes))
 unfolding line_in_words
 send_says id bytes h fits =
     ap (λ (o : Option (Id × List (List ℕ))). o >>= λ i. send_of i.0 i.1) (id_again id (command_words h.command) fits)
     ∙ ap (λ (ws : List (List ℕ)). send_of id ws) (sym (append-nil (command_words h.command)))
-    ∙ ap (λ (o : Option (Command × List (List ℕ))). o >>= λ c. alone (line.Event (Send id (spelling c.0))) c.1) (command_again h.command [] h.spelled)
-    ∙ ap (λ (b : List ℕ). Some (line.Event (Send id b))) (sym h.whole)
+    ∙ ap (λ (o : Option (Command × List (List ℕ))). o >>= λ c. alone (line.Event (Sent id (spelling c.0))) c.1) (command_again h.command [] h.spelled)
+    ∙ ap (λ (b : List ℕ). Some (line.Event (Sent id b))) (sym h.whole)
 
-pub send_line : (id : Id) (bytes : List ℕ) → IsCommand bytes → FitsId id → IsLine (event_line (Send id bytes)) (line.Event (Send id bytes))
+pub send_line : (id : Id) (bytes : List ℕ) → IsCommand bytes → FitsId id → IsLine (event_line (Sent id bytes)) (line.Event (Sent id bytes))
 send_line id bytes h fits = record {
   first = codes "send";
   words = client_word id.client ∷ decimal id.num ∷ command_words h.command;
@@ -239,15 +239,15 @@ send_line id bytes h fits = record {
 }
 
 accept_says : (id : Id) (a : Answer) (p : Path) → FitsId id → FitsAnswer a
-    → line_in_words (codes "accept" ∷ client_word id.client ∷ decimal id.num ∷ (answer_words a ++ path_word p ∷ [])) ≡ Some (line.Event (Accept id a p))
+    → line_in_words (codes "accept" ∷ client_word id.client ∷ decimal id.num ∷ (answer_words a ++ path_word p ∷ [])) ≡ Some (line.Event (Accepted id a p))
 unfolding line_in_words
 accept_says id a p fits h =
     ap (λ (o : Option (Id × List (List ℕ))). o >>= λ i. accept_of i.0 i.1) (id_again id (answer_words a ++ path_word p ∷ []) fits)
     ∙ ap (λ (o : Option (Answer × List (List ℕ))). o >>= λ x. path_of x.1 >>= λ path. Some
-    (line.Event (Accept id x.0 path))) (answer_again a (path_word p ∷ []) h)
-    ∙ ap (λ (o : Option Path). o >>= λ path. Some (line.Event (Accept id a path))) (path_again p)
+    (line.Event (Accepted id x.0 path))) (answer_again a (path_word p ∷ []) h)
+    ∙ ap (λ (o : Option Path). o >>= λ path. Some (line.Event (Accepted id a path))) (path_again p)
 
-pub accept_line : (id : Id) (a : Answer) (p : Path) → FitsId id → FitsAnswer a → IsLine (event_line (Accept id a p)) (line.Event (Accept id a p))
+pub accept_line : (id : Id) (a : Answer) (p : Path) → FitsId id → FitsAnswer a → IsLine (event_line (Accepted id a p)) (line.Event (Accepted id a p))
 accept_line id a p fits h =
     let T = answer_text a ++ path_text p in
     record {

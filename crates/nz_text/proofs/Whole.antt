@@ -16,15 +16,15 @@ use Rattle.nz_text.specs.declared.draft.Draft.{Draft}
 use Rattle.nz_text.specs.declared.draft.Stage.{Stage}
 use Rattle.nz_text.specs.declared.draft.Stage.TheVariants as stage
 use Rattle.nz_text.specs.declared.line.Line.TheVariants as line
-use Rattle.nz_text.specs.declared.printed.Event.{Event}
-use Rattle.nz_text.specs.declared.printed.Event.TheVariants.{Send, Accept}
+use Rattle.nz_machine.specs.declared.client_event.ClientEvent.{ClientEvent}
+use Rattle.nz_machine.specs.declared.client_event.ClientEvent.TheVariants.{Sent, Accepted}
 use Rattle.nz_text.specs.declared.printed.Printed.{Printed}
 use Rattle.nz_text.specs.Fit.{FitsId, FitsEvent, FitsExecuted, FitsPrinted}
 use Rattle.nz_text.specs.Text.{event_line, open_line, at_line, at_lines, text_of_printed}
 use Rattle.nz_text.specs.Reading.{stage_rank, printed_from, printed_in}
 use Rattle.nz_text.proofs.ReadBack.{IsLine, IsCommand, line_read, send_line, accept_line, open_line_is, at_line_is, end_line_is}
 
-abbrev at : Stage → List Event → List Id → List Executed → Draft
+abbrev at : Stage → List ClientEvent → List Id → List Executed → Draft
 at s E U H = record { stage = s; printed = record { events = E; unanswered = U; history = H } }
 
 -- what is left of a text is read on from what was read
@@ -51,15 +51,15 @@ command_is : (bytes : List ℕ) (o : Option Command) → command_of bytes ≡ o 
 command_is bytes None e h = absurd (false≢true h)
 command_is bytes (Some c) e h = let s = spells_from_reading bytes c e in record { command = c; found = e; whole = s.whole; spelled = (tells_valid c).1 s.valid }
 
-event_is : (e : Event) → FitsEvent e → IsLine (event_line e) (line.Event e)
-event_is (Send id command) h = send_line id command (command_is command (command_of command) refl h.1) h.0
-event_is (Accept id answer path) h = accept_line id answer path h.0 h.1
+event_is : (e : ClientEvent) → FitsEvent e → IsLine (event_line e) (line.Event e)
+event_is (Sent id command) h = send_line id command (command_is command (command_of command) refl h.1) h.0
+event_is (Accepted id answer path) h = accept_line id answer path h.0 h.1
 
-events_read : (n : ℕ) (E0 E : List Event) (rest : List ℕ) → AllByRecursion FitsEvent E
+events_read : (n : ℕ) (E0 E : List ClientEvent) (rest : List ℕ) → AllByRecursion FitsEvent E
     → Reaches n (at stage.Events E0 [] []) (flat_map event_line E ++ rest) rest (at stage.Events (E0 ++ E) [] [])
 events_read n E0 [] rest h =
     no_line n (at stage.Events E0 [] []) (at stage.Events (E0 ++ []) [] []) rest
-    (ap (λ (E : List Event). at stage.Events E [] []) (sym (append-nil E0)))
+    (ap (λ (E : List ClientEvent). at stage.Events E [] []) (sym (append-nil E0)))
 events_read n E0 (e ∷ E) rest h =
     let next = at stage.Events (E0 ++ e ∷ []) [] [] in
     reaches_to n (at stage.Events E0 [] []) (at stage.Events ((E0 ++ e ∷ []) ++ E) [] [])
@@ -67,7 +67,7 @@ events_read n E0 (e ∷ E) rest h =
     (first_line n (at stage.Events E0 [] []) next (at stage.Events ((E0 ++ e ∷ []) ++ E) [] []) (event_line e) (flat_map event_line E) rest
     (line_read (event_line e) (flat_map event_line E ++ rest) n (at stage.Events E0 [] []) next (line.Event e)
     (event_is e h.0) refl) (events_read (n + 1) (E0 ++ e ∷ []) E rest h.1))
-    (ap (λ (X : List Event). at stage.Events X [] []) (append_assoc E0 (e ∷ []) E))
+    (ap (λ (X : List ClientEvent). at stage.Events X [] []) (append_assoc E0 (e ∷ []) E))
 
 -- ---- open requests
 
@@ -82,7 +82,7 @@ unfolding stage_after
 stays_low most s t [] h k = h
 stays_low most s t (x ∷ xs) h k = stays_low most t t xs k k
 
-opens_read : (n : ℕ) (s : Stage) (E : List Event) (U0 U : List Id) (rest : List ℕ) → nat_le (stage_rank s) 1 ≡ true → AllByRecursion FitsId U
+opens_read : (n : ℕ) (s : Stage) (E : List ClientEvent) (U0 U : List Id) (rest : List ℕ) → nat_le (stage_rank s) 1 ≡ true → AllByRecursion FitsId U
     → Reaches n (at s E U0 []) (flat_map open_line U ++ rest) rest (at (stage_after s U stage.Opens) E (U0 ++ U) [])
 unfolding stage_after
 opens_read n s E U0 [] rest low h = no_line n (at s E U0 []) (at s E (U0 ++ []) []) rest (ap (λ (U : List Id). at s E U []) (sym (append-nil U0)))
@@ -97,7 +97,7 @@ opens_read n s E U0 (id ∷ U) rest low h =
 
 -- ---- the history
 
-history_read : (n : ℕ) (s : Stage) (E : List Event) (U : List Id) (H0 H : List Executed) (place : ℕ) (rest : List ℕ)
+history_read : (n : ℕ) (s : Stage) (E : List ClientEvent) (U : List Id) (H0 H : List Executed) (place : ℕ) (rest : List ℕ)
     → nat_le (stage_rank s) 2 ≡ true → place ≡ length H0 + 1 → length H0 + length H < 2 ^ 32 → AllByRecursion FitsExecuted H
     → Reaches n (at s E U H0) (at_lines place H ++ rest) rest (at (stage_after s H stage.History) E U (H0 ++ H))
 unfolding stage_after
@@ -118,7 +118,7 @@ history_read n s E U H0 (e ∷ H) place rest low is few h =
 
 -- ---- the end
 
-end_read : (n : ℕ) (s : Stage) (E : List Event) (U : List Id) (H : List Executed) → nat_le (stage_rank s) 2 ≡ true
+end_read : (n : ℕ) (s : Stage) (E : List ClientEvent) (U : List Id) (H : List Executed) → nat_le (stage_rank s) 2 ≡ true
     → printed_from (tail_in (codes "end\n")) n (at s E U H) (lines_in (codes "end\n")) ≡ Ok (record { events = E; unanswered = U; history = H })
 end_read n s E U H low =
     line_read (codes "end\n") [] n (at s E U H) (at stage.Ended E U H) line.End end_line_is

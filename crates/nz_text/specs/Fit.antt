@@ -6,8 +6,8 @@ use Rattle.nz_store.specs.declared.command.Answer.{Answer}
 use Rattle.nz_store.specs.declared.command.Answer.TheVariants.{Done, Value, Absent, Differs}
 use Rattle.nz_store.specs.Reading.{is_value_text, command_of}
 use Rattle.nz_machine.specs.declared.journal.Executed.{Executed}
-use Rattle.nz_text.specs.declared.printed.Event.{Event}
-use Rattle.nz_text.specs.declared.printed.Event.TheVariants.{Send, Accept}
+use Rattle.nz_machine.specs.declared.client_event.ClientEvent.{ClientEvent}
+use Rattle.nz_machine.specs.declared.client_event.ClientEvent.TheVariants.{Sent, Accepted}
 use Rattle.nz_text.specs.declared.printed.Printed.{Printed}
 
 -- An id as 32 bits hold it.
@@ -23,9 +23,9 @@ FitsAnswer Absent = Unit {0}
 FitsAnswer Differs = Unit {0}
 
 -- The bytes of a request are a command.
-abbrev pub FitsEvent : Event → Type 0
-FitsEvent (Send id command) = FitsId id × IsSome (command_of command)
-FitsEvent (Accept id answer path) = FitsId id × FitsAnswer answer
+abbrev pub FitsEvent : ClientEvent → Type 0
+FitsEvent (Sent id command) = FitsId id × IsSome (command_of command)
+FitsEvent (Accepted id answer path) = FitsId id × FitsAnswer answer
 
 -- An entry of a history that can be printed.
 pub record FitsExecuted (e : Executed) : Type 0 where

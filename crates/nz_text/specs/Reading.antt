@@ -20,7 +20,7 @@ use Rattle.nz_text.specs.declared.fault.TextFault.{TextFault}
 use Rattle.nz_text.specs.declared.fault.TextFault.TheVariants.{Bad}
 use Rattle.nz_text.specs.declared.line.Line.{Line}
 use Rattle.nz_text.specs.declared.line.Line.TheVariants as line
-use Rattle.nz_text.specs.declared.printed.Event.TheVariants.{Send, Accept}
+use Rattle.nz_machine.specs.declared.client_event.ClientEvent.TheVariants.{Sent, Accepted}
 use Rattle.nz_text.specs.declared.printed.Printed.{Printed}
 
 -- ---- words
@@ -76,11 +76,11 @@ alone x (word ∷ more) = None
 
 -- A command and no more.
 abbrev pub send_of : Id → List (List ℕ) → Option Line
-send_of id words = command_first words >>= λ c. alone (line.Event (Send id (spelling c.0))) c.1
+send_of id words = command_first words >>= λ c. alone (line.Event (Sent id (spelling c.0))) c.1
 
 -- An answer and a path.
 abbrev pub accept_of : Id → List (List ℕ) → Option Line
-accept_of id words = answer_first words >>= λ a. path_of a.1 >>= λ path. Some (line.Event (Accept id a.0 path))
+accept_of id words = answer_first words >>= λ a. path_of a.1 >>= λ path. Some (line.Event (Accepted id a.0 path))
 
 -- The answer after the word `gives`.
 unfoldable pub answer_in_words : List (List ℕ) → Option Answer

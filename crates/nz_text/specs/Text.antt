@@ -1,5 +1,5 @@
 -- The text of a run: what its clients saw, what is open, the history, and the end. Its summary counts the lines.
-use Rattle.std.specs.Prelude.{ℕ, suc, Bool, true, false, List, [], ◌∷◌, ◌++◌, length, map, Option, Some, None, if◌then◌else◌, codes, count_by}
+use Rattle.std.specs.Prelude.{ℕ, suc, Bool, true, false, List, [], ◌∷◌, ◌++◌, length, Option, Some, None, if◌then◌else◌, codes, count_by}
 use Rattle.std.specs.Fmt.{decimal}
 use Rattle.std.specs.List.{list_any, flat_map}
 use Rattle.nz_base.specs.Key.{id_eq}
@@ -14,16 +14,14 @@ use Rattle.nz_msg.specs.declared.message.Path.TheVariants.{Fast, Slow}
 use Rattle.nz_machine.specs.declared.event.Record.{Record}
 use Rattle.nz_machine.specs.declared.journal.Executed.{Executed}
 use Rattle.nz_machine.specs.rules.State.{Group}
-use Rattle.nz_machine.specs.runs.Events.{ClientEvent, Sent, Accepted, events}
+use Rattle.nz_machine.specs.declared.client_event.ClientEvent.{ClientEvent}
+use Rattle.nz_machine.specs.declared.client_event.ClientEvent.TheVariants.{Sent, Accepted}
+use Rattle.nz_machine.specs.runs.Events.{events}
 use Rattle.nz_machine.specs.runs.History.{history}
 use Rattle.nz_machine.specs.journals.Journals.{executed_entries}
 use Rattle.nz_text.specs.declared.summaries.Sort.{Sort}
 use Rattle.nz_text.specs.declared.summaries.Sort.TheVariants as sort
-use Rattle.nz_text.specs.declared.printed.Event.{Event}
-use Rattle.nz_text.specs.declared.printed.Event.TheVariants.{Send, Accept}
 use Rattle.nz_text.specs.declared.printed.Printed.{Printed}
-use Rattle.nz_text.specs.declared.printed.Lent.{Lent}
-use Rattle.nz_text.specs.declared.printed.Lent.TheVariants as lent
 
 -- ---- lines
 
@@ -53,9 +51,9 @@ path_text Fast = codes " fast"
 path_text Slow = codes " slow"
 
 -- The line of an event: a request that was sent, or an answer that was accepted, and how it was decided.
-abbrev pub event_line : Event → List ℕ
-event_line (Send id command) = codes "send" ++ (id_text id ++ (found_text (command_of command) ++ text_newline))
-event_line (Accept id answer path) = codes "accept" ++ (id_text id ++ (answer_text answer ++ (path_text path ++ text_newline)))
+abbrev pub event_line : ClientEvent → List ℕ
+event_line (Sent id command) = codes "send" ++ (id_text id ++ (found_text (command_of command) ++ text_newline))
+event_line (Accepted id answer path) = codes "accept" ++ (id_text id ++ (answer_text answer ++ (path_text path ++ text_newline)))
 
 -- The line of a request without an acceptance.
 abbrev pub open_line : Id → List ℕ
@@ -78,50 +76,36 @@ text_of_printed p = flat_map event_line p.events ++ (flat_map open_line p.unansw
 
 -- ---- what is printed of a run
 
--- An event of the run, as a text has it.
-abbrev pub event_of : ClientEvent → Event
-event_of (Sent id command) = Send id command
-event_of (Accepted id answer path) = Accept id answer path
-
 -- The event accepts an answer to the request.
-abbrev pub accepts_it : Id → Event → Bool
-accepts_it id (Send other command) = false
-accepts_it id (Accept other answer path) = id_eq other id
+abbrev pub accepts_it : Id → ClientEvent → Bool
+accepts_it id (Sent other command) = false
+accepts_it id (Accepted other answer path) = id_eq other id
 
 -- The request of an event that sent it, where none of the events accepts an answer to it.
-abbrev pub open_in : List Event → Event → List Id
-open_in E (Send id command) = if list_any (accepts_it id) E then [] else id ∷ []
-open_in E (Accept id answer path) = []
+abbrev pub open_in : List ClientEvent → ClientEvent → List Id
+open_in E (Sent id command) = if list_any (accepts_it id) E then [] else id ∷ []
+open_in E (Accepted id answer path) = []
 
 -- The requests without an acceptance, in the order in which they were sent.
-abbrev pub unanswered_in : List Event → List Id
+abbrev pub unanswered_in : List ClientEvent → List Id
 unanswered_in E = flat_map (open_in E) E
-
--- The events of the run's clients.
-abbrev pub events_in : Group → List Record → List Event
-events_in g J = map event_of (events g J)
 
 -- What is printed of a run: its events, its open requests, and its history with the answers of one store.
 abbrev pub printed_of_run : Group → List Record → Printed
-printed_of_run g J = record { events = events_in g J; unanswered = unanswered_in (events_in g J); history = executed_entries (history g J) }
+printed_of_run g J = record { events = events g J; unanswered = unanswered_in (events g J); history = executed_entries (history g J) }
 
 -- The text of a run.
 abbrev pub text : Group → List Record → List ℕ
 text g J = text_of_printed (printed_of_run g J)
 
--- The event that is lent.
-abbrev pub event_lent : Lent → Event
-event_lent (lent.Send id command) = Send id command.now
-event_lent (lent.Accept id answer path) = Accept id answer.now path
-
 -- ---- the summary
 
 -- The event is of this sort.
-abbrev pub is_event_of : Sort → Event → Bool
-is_event_of sort.Sent (Send id command) = true
-is_event_of sort.Accepted (Accept id answer path) = true
-is_event_of sort.Fast (Accept id answer Fast) = true
-is_event_of sort.Slow (Accept id answer Slow) = true
+abbrev pub is_event_of : Sort → ClientEvent → Bool
+is_event_of sort.Sent (Sent id command) = true
+is_event_of sort.Accepted (Accepted id answer path) = true
+is_event_of sort.Fast (Accepted id answer Fast) = true
+is_event_of sort.Slow (Accepted id answer Slow) = true
 is_event_of _ _ = false
 
 -- A name and how many there are.

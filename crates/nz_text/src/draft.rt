@@ -5,9 +5,9 @@ ghost use Rattle.nz_text.specs.declared.line.Line.TheVariants as line;
 ghost use Rattle.nz_text.specs.Reading.{stage_rank, empty_draft, with_line, draft_after_bytes, draft_if_good};
 
 use super::line::{Line, line_of};
-use super::printed::{Event, EventList, Printed};
-use nz_base::{Id, IdList, NoMemory};
-use nz_machine::{Executed, History};
+use super::printed::Printed;
+use nz_base::{Id, IdList, List, NoMemory};
+use nz_machine::{ClientEvent, Executed, History};
 use std::alloc::Global;
 
 /// How far a text has come: which lines it has had.
@@ -47,14 +47,14 @@ impl Draft {
         Draft {
             stage: Stage::Events,
             printed: Printed {
-                events: EventList::new(alloc),
+                events: List::new(alloc),
                 unanswered: IdList::new(alloc),
                 history: History::new(alloc),
             },
         }
     }
 
-    fn take_event(&mut self, event: Event) -> Result<bool, NoMemory>
+    fn take_event(&mut self, event: ClientEvent) -> Result<bool, NoMemory>
         ensures { IfOk result (λ good. with_line self.old (line.Event event) ≡ draft_if_good good self.new) }
     {
         if self.stage.rank() != 0 {

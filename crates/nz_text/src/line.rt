@@ -4,15 +4,13 @@ ghost use Rattle.std.specs.Option.{option_map};
 ghost use Rattle.nz_store.specs.Grammar.{IsValidCommand, spelling};
 ghost use Rattle.nz_store.specs.Reading.{command_owned};
 ghost use Rattle.nz_text.specs.Reading as reading;
-ghost use Rattle.nz_text.specs.Reading.{pieces_in, number_in_digits, client_in, id_of_words, alone, send_of, accept_of, answer_in_words};
-ghost use Rattle.nz_text.specs.Reading.{send_in_words, accept_in_words, open_in_words, at_in_words, line_in_words};
+ghost use Rattle.nz_text.specs.Reading.{pieces_in, number_in_digits, client_in, id_of_words, alone, line_in_words};
 ghost use Rattle.nz_text.specs.declared.line.Line.TheVariants as line;
 ghost use Rattle.nz_text.specs.declared.line.TheConstants.{MAX_WORDS};
 
-use super::printed::Event;
 use arrayvec::ArrayVec;
 use nz_base::{Blob, Id, NoMemory};
-use nz_machine::Executed;
+use nz_machine::{ClientEvent, Executed};
 use nz_msg::Path;
 use nz_script::{command_first, cut_at, number_of};
 use nz_store::{Answer, Blob as Value, CommandRef, is_value, write_command};
@@ -26,7 +24,7 @@ type WordList<'a> = ArrayVec<&'a [u8], MAX_WORDS>;
 /// A line of a text.
 #[derive(Drop)]
 pub enum Line {
-    Event(Event),
+    Event(ClientEvent),
     Open(Id),
     /// The place in the history, from 1.
     At(u64, Executed),
@@ -165,8 +163,8 @@ fn spelled(alloc: Global, command: CommandRef<'_>) -> Result<Blob, NoMemory>
     Ok(Blob::from_vec(bytes))
 }
 
-fn send_line(alloc: Global, id: Id, words: &[&[u8]]) -> Result<Option<Line>, NoMemory>
-    ensures { IfOk result (λ line. line ≡ send_of id (map (λ w. w.now) words.now)) }
+fn send_of(alloc: Global, id: Id, words: &[&[u8]]) -> Result<Option<Line>, NoMemory>
+    ensures { IfOk result (λ line. line ≡ reading.send_of id (map (λ w. w.now) words.now)) }
 {
     let Some((command, rest)) = command_first(words) else {
         return Ok(None);
@@ -174,14 +172,14 @@ fn send_line(alloc: Global, id: Id, words: &[&[u8]]) -> Result<Option<Line>, NoM
     match rest {
         [] => {
             let command = spelled(alloc, command)?;
-            Ok(Some(Line::Event(Event::Send { id, command })))
+            Ok(Some(Line::Event(ClientEvent::Sent { id, command })))
         }
         [_, ..] => Ok(None),
     }
 }
 
-fn accept_line(alloc: Global, id: Id, words: &[&[u8]]) -> Result<Option<Line>, NoMemory>
-    ensures { IfOk result (λ line. line ≡ accept_of id (map (λ w. w.now) words.now)) }
+fn accept_of(alloc: Global, id: Id, words: &[&[u8]]) -> Result<Option<Line>, NoMemory>
+    ensures { IfOk result (λ line. line ≡ reading.accept_of id (map (λ w. w.now) words.now)) }
 {
     let Some((answer, rest)) = answer_first(alloc, words)? else {
         return Ok(None);
@@ -189,13 +187,13 @@ fn accept_line(alloc: Global, id: Id, words: &[&[u8]]) -> Result<Option<Line>, N
     let Some(path) = path_of(rest) else {
         return Ok(None);
     };
-    Ok(Some(Line::Event(Event::Accept { id, answer, path })))
+    Ok(Some(Line::Event(ClientEvent::Accepted { id, answer, path })))
 }
 
 /// The answer after the word `gives`.
 #[tactic(auto, unfolding(crate::specs::Reading::answer_in_words))]
-fn given(alloc: Global, words: &[&[u8]]) -> Result<Option<Answer>, NoMemory>
-    ensures { IfOk result (λ answer. answer ≡ answer_in_words (map (λ w. w.now) words.now)) }
+fn answer_in_words(alloc: Global, words: &[&[u8]]) -> Result<Option<Answer>, NoMemory>
+    ensures { IfOk result (λ answer. answer ≡ reading.answer_in_words (map (λ w. w.now) words.now)) }
 {
     let [word, more @ ..] = words else {
         return Ok(None);
@@ -218,7 +216,7 @@ fn executed_of(alloc: Global, id: Id, words: &[&[u8]]) -> Result<Option<Executed
     let Some((command, rest)) = command_first(words) else {
         return Ok(None);
     };
-    let Some(answer) = given(alloc, rest)? else {
+    let Some(answer) = answer_in_words(alloc, rest)? else {
         return Ok(None);
     };
     let command = spelled(alloc, command)?;
@@ -229,26 +227,26 @@ fn executed_of(alloc: Global, id: Id, words: &[&[u8]]) -> Result<Option<Executed
     }))
 }
 
-fn sent(alloc: Global, words: &[&[u8]]) -> Result<Option<Line>, NoMemory>
-    ensures { IfOk result (λ line. line ≡ send_in_words (map (λ w. w.now) words.now)) }
+fn send_in_words(alloc: Global, words: &[&[u8]]) -> Result<Option<Line>, NoMemory>
+    ensures { IfOk result (λ line. line ≡ reading.send_in_words (map (λ w. w.now) words.now)) }
 {
     match id_first(words) {
         None => Ok(None),
-        Some((id, more)) => send_line(alloc, id, more),
+        Some((id, more)) => send_of(alloc, id, more),
     }
 }
 
-fn accepted(alloc: Global, words: &[&[u8]]) -> Result<Option<Line>, NoMemory>
-    ensures { IfOk result (λ line. line ≡ accept_in_words (map (λ w. w.now) words.now)) }
+fn accept_in_words(alloc: Global, words: &[&[u8]]) -> Result<Option<Line>, NoMemory>
+    ensures { IfOk result (λ line. line ≡ reading.accept_in_words (map (λ w. w.now) words.now)) }
 {
     match id_first(words) {
         None => Ok(None),
-        Some((id, more)) => accept_line(alloc, id, more),
+        Some((id, more)) => accept_of(alloc, id, more),
     }
 }
 
-fn opened(words: &[&[u8]]) -> Option<Line>
-    ensures { result ≡ open_in_words (map (λ w. w.now) words.now) }
+fn open_in_words(words: &[&[u8]]) -> Option<Line>
+    ensures { result ≡ reading.open_in_words (map (λ w. w.now) words.now) }
 {
     let (id, rest) = id_first(words)?;
     match rest {
@@ -258,8 +256,8 @@ fn opened(words: &[&[u8]]) -> Option<Line>
 }
 
 #[tactic(auto, unfolding(crate::specs::Reading::at_in_words))]
-fn placed(alloc: Global, words: &[&[u8]]) -> Result<Option<Line>, NoMemory>
-    ensures { IfOk result (λ line. line ≡ at_in_words (map (λ w. w.now) words.now)) }
+fn at_in_words(alloc: Global, words: &[&[u8]]) -> Result<Option<Line>, NoMemory>
+    ensures { IfOk result (λ line. line ≡ reading.at_in_words (map (λ w. w.now) words.now)) }
 {
     let [place, more @ ..] = words else {
         return Ok(None);
@@ -276,7 +274,7 @@ fn placed(alloc: Global, words: &[&[u8]]) -> Result<Option<Line>, NoMemory>
     }
 }
 
-fn ended(words: &[&[u8]]) -> Option<Line>
+fn end_in_words(words: &[&[u8]]) -> Option<Line>
     ensures { result ≡ alone line.End (map (λ w. w.now) words.now) }
 {
     match words {
@@ -294,19 +292,19 @@ fn line_of_words(alloc: Global, words: &[&[u8]]) -> Result<Option<Line>, NoMemor
         return Ok(None);
     };
     if *first == b"send".as_slice() {
-        return sent(alloc, more);
+        return send_in_words(alloc, more);
     }
     if *first == b"accept".as_slice() {
-        return accepted(alloc, more);
+        return accept_in_words(alloc, more);
     }
     if *first == b"open".as_slice() {
-        return Ok(opened(more));
+        return Ok(open_in_words(more));
     }
     if *first == b"at".as_slice() {
-        return placed(alloc, more);
+        return at_in_words(alloc, more);
     }
     if *first == b"end".as_slice() {
-        return Ok(ended(more));
+        return Ok(end_in_words(more));
     }
     Ok(None)
 }

@@ -2,11 +2,11 @@
 ghost use Rattle.std.specs.Prelude.{◌≡◌, ◌++◌, ◌<◌, ◌^◌, length, OnOk};
 ghost use Rattle.std.specs.List.{flat_map};
 ghost use Rattle.nz_store.specs.Reading.{command_of};
+ghost use Rattle.nz_machine.specs.journals.EventNotes.{events_alone};
 ghost use Rattle.nz_text.specs.Text.{id_text, found_text, answer_text, path_text, event_line, open_line, at_line, at_lines};
 
-use super::printed::{EventRef, Lent};
 use nz_base::{Id, NoMemory};
-use nz_machine::Executed;
+use nz_machine::{ClientEvent, EventAt, Executed};
 use nz_msg::Path;
 use nz_script::{put, put_command, put_number};
 use nz_store::{Answer, command_in};
@@ -59,31 +59,31 @@ pub fn put_path(out: &mut Vec<u8>, path: Path) -> Result<(), NoMemory>
 }
 
 /// Writes the line of the event.
-pub fn put_event(out: &mut Vec<u8>, event: &EventRef<'_>) -> Result<(), NoMemory>
+pub fn put_event(out: &mut Vec<u8>, event: &ClientEvent) -> Result<(), NoMemory>
     ensures { OnOk result (out.new.items ≡ out.old.items ++ event_line event.now) }
 {
-    match event.lent {
-        Lent::Send { id, command } => {
+    match event {
+        ClientEvent::Sent { id, command } => {
             put(out, b"send")?;
-            put_id(out, id)?;
-            put_found(out, command)?;
+            put_id(out, *id)?;
+            put_found(out, command.as_slice())?;
         }
-        Lent::Accept { id, answer, path } => {
+        ClientEvent::Accepted { id, answer, path } => {
             put(out, b"accept")?;
-            put_id(out, id)?;
+            put_id(out, *id)?;
             put_answer(out, answer)?;
-            put_path(out, path)?;
+            put_path(out, *path)?;
         }
     }
     put(out, b"\n")
 }
 
 /// Writes a line for each event.
-pub fn put_events(out: &mut Vec<u8>, events: &[EventRef<'_>]) -> Result<(), NoMemory>
-    ensures { OnOk result (out.new.items ≡ out.old.items ++ flat_map event_line events.now) }
+pub fn put_events(out: &mut Vec<u8>, events: &[EventAt]) -> Result<(), NoMemory>
+    ensures { OnOk result (out.new.items ≡ out.old.items ++ flat_map event_line (events_alone events.now)) }
 {
-    for event in events {
-        put_event(out, event)?;
+    for next in events {
+        put_event(out, &next.event)?;
     }
     Ok(())
 }

@@ -3,17 +3,15 @@
 ghost use Rattle.std.specs.Prelude.{◌≡◌, ◌++◌, List, count_by, IfOk, OnOk};
 ghost use Rattle.nz_machine.specs.runs.History as histories;
 ghost use Rattle.nz_machine.specs.journals.Journals.{executed_entries};
-ghost use Rattle.nz_machine.specs.runs.Schedule.{group_of};
-ghost use Rattle.nz_machine.specs.journals.Tellings.{told_by_run};
-ghost use Rattle.nz_machine.specs.runs.World.{World};
+ghost use Rattle.nz_machine.specs.journals.EventNotes.{events_at, events_alone};
+ghost use Rattle.nz_machine.specs.rules.State.{Group};
 ghost use Rattle.nz_machine.specs.declared.event.Record.{Record};
 ghost use Rattle.nz_text.specs.Text as text;
 ghost use Rattle.nz_text.specs.Text.{is_event_of, count_line, summary_of};
 
-use super::printed::{EventRef, Lent};
-use super::run_events::{events_of, unanswered_of};
-use nz_base::{Blob, IdList, NoMemory, Scenario};
-use nz_machine::{History, ToldList};
+use super::unanswered::unanswered_of;
+use nz_base::{Blob, IdList, NoMemory};
+use nz_machine::{ClientEvent, EventAt, History};
 use nz_msg::Path;
 use nz_script::{put, put_number};
 use std::alloc::Global;
@@ -28,22 +26,22 @@ pub enum Sort {
 }
 
 impl Sort {
-    fn has(self, event: &EventRef<'_>) -> bool
+    fn has(self, event: &ClientEvent) -> bool
         ensures { result ≡ is_event_of self event.now }
     {
-        match (self, event.lent) {
-            (Sort::Sent, Lent::Send { .. }) => true,
-            (Sort::Accepted, Lent::Accept { .. }) => true,
+        match (self, event) {
+            (Sort::Sent, ClientEvent::Sent { .. }) => true,
+            (Sort::Accepted, ClientEvent::Accepted { .. }) => true,
             (
                 Sort::Fast,
-                Lent::Accept {
+                ClientEvent::Accepted {
                     path: Path::Fast,
                     ..
                 },
             ) => true,
             (
                 Sort::Slow,
-                Lent::Accept {
+                ClientEvent::Accepted {
                     path: Path::Slow,
                     ..
                 },
@@ -52,10 +50,10 @@ impl Sort {
         }
     }
 
-    fn count(self, events: &[EventRef<'_>]) -> usize
-        ensures { result ≡ count_by (is_event_of self) events.now }
+    fn count(self, events: &[EventAt]) -> usize
+        ensures { result ≡ count_by (is_event_of self) (events_alone events.now) }
     {
-        events.iter().filter(|event| self.has(event)).count()
+        events.iter().filter(|next| self.has(&next.event)).count()
     }
 }
 
@@ -71,11 +69,11 @@ fn put_count(out: &mut Vec<u8>, name: &[u8], count: usize) -> Result<(), NoMemor
 /// The summary of these.
 pub fn count(
     alloc: Global,
-    events: &[EventRef<'_>],
+    events: &[EventAt],
     unanswered: &IdList,
     history: &History,
 ) -> Result<Blob, NoMemory>
-    ensures { IfOk result (λ bytes. bytes ≡ summary_of (record { events = events.now; unanswered = unanswered.now; history = history.now })) }
+    ensures { IfOk result (λ bytes. bytes ≡ summary_of (record { events = events_alone events.now; unanswered = unanswered.now; history = history.now })) }
 {
     let mut out = Vec::new(alloc);
     put_count(&mut out, b"sent", Sort::Sent.count(events))?;
@@ -88,17 +86,11 @@ pub fn count(
     Ok(Blob::from_vec(out))
 }
 
-/// How many lines of each sort the text of the run has. What the clients told is given, and is not read again.
-pub fn summary(
-    alloc: Global,
-    scenario: &Scenario,
-    told: ToldList,
-    history: &History,
-) -> Result<Blob, NoMemory>
-    ensures { let g = group_of scenario.now in IfOk result (λ bytes. (J : List Record) → World g J → told ≡ told_by_run g J
+/// How many lines of each sort the text of the run with these events has.
+pub fn summary(alloc: Global, events: &[EventAt], history: &History) -> Result<Blob, NoMemory>
+    ensures { IfOk result (λ bytes. (g : Group) (J : List Record) → events.now ≡ events_at g J
         → history.now ≡ executed_entries (histories.history g J) → bytes ≡ text.summary g J) }
 {
-    let events = events_of(alloc, scenario, told.as_slice())?;
-    let unanswered = unanswered_of(alloc, events.as_slice())?;
-    count(alloc, events.as_slice(), &unanswered, history)
+    let unanswered = unanswered_of(alloc, events)?;
+    count(alloc, events, &unanswered, history)
 }

@@ -3,18 +3,16 @@
 ghost use Rattle.std.specs.Prelude.{◌≡◌, List, IfOk};
 ghost use Rattle.nz_machine.specs.runs.History as histories;
 ghost use Rattle.nz_machine.specs.journals.Journals.{executed_entries};
-ghost use Rattle.nz_machine.specs.runs.Schedule.{group_of};
-ghost use Rattle.nz_machine.specs.journals.Tellings.{told_by_run};
-ghost use Rattle.nz_machine.specs.runs.World.{World};
+ghost use Rattle.nz_machine.specs.journals.EventNotes.{events_at, events_alone};
+ghost use Rattle.nz_machine.specs.rules.State.{Group};
 ghost use Rattle.nz_machine.specs.declared.event.Record.{Record};
 ghost use Rattle.nz_text.specs.Text as text_words;
 ghost use Rattle.nz_text.specs.Text.{text_of_printed};
 
 use super::lines::{put_events, put_history, put_opens};
-use super::printed::EventRef;
-use super::run_events::{events_of, unanswered_of};
-use nz_base::{Blob, Id, NoMemory, Scenario};
-use nz_machine::{Executed, History, ToldList};
+use super::unanswered::unanswered_of;
+use nz_base::{Blob, Id, NoMemory};
+use nz_machine::{EventAt, Executed, History};
 use nz_script::put;
 use std::alloc::Global;
 
@@ -35,11 +33,11 @@ fn likely_len(history: &[Executed]) -> usize {
 /// The text of these events, open requests and executed entries.
 pub fn spell(
     alloc: Global,
-    events: &[EventRef<'_>],
+    events: &[EventAt],
     unanswered: &[Id],
     history: &History,
 ) -> Result<Blob, NoMemory>
-    ensures { IfOk result (λ bytes. bytes ≡ text_of_printed (record { events = events.now; unanswered = unanswered.now; history = history.now })) }
+    ensures { IfOk result (λ bytes. bytes ≡ text_of_printed (record { events = events_alone events.now; unanswered = unanswered.now; history = history.now })) }
 {
     let mut out = Vec::with_capacity(alloc, likely_len(history.as_slice()))?;
     put_events(&mut out, events)?;
@@ -50,18 +48,12 @@ pub fn spell(
     Ok(Blob::from_vec(out))
 }
 
-/// The text of a run: a line for each event of the clients, for each request that is open, and for each
-/// entry of the history, and `end`. What the clients told is given, and is not read again.
-pub fn text(
-    alloc: Global,
-    scenario: &Scenario,
-    told: ToldList,
-    history: &History,
-) -> Result<Blob, NoMemory>
-    ensures { let g = group_of scenario.now in IfOk result (λ bytes. (J : List Record) → World g J → told ≡ told_by_run g J
+/// The text of the run with these events: a line for each of them, for each request that is open, and for each entry of
+/// the history, and `end`.
+pub fn text(alloc: Global, events: &[EventAt], history: &History) -> Result<Blob, NoMemory>
+    ensures { IfOk result (λ bytes. (g : Group) (J : List Record) → events.now ≡ events_at g J
         → history.now ≡ executed_entries (histories.history g J) → bytes ≡ text_words.text g J) }
 {
-    let events = events_of(alloc, scenario, told.as_slice())?;
-    let unanswered = unanswered_of(alloc, events.as_slice())?;
-    spell(alloc, events.as_slice(), unanswered.as_slice(), history)
+    let unanswered = unanswered_of(alloc, events)?;
+    spell(alloc, events, unanswered.as_slice(), history)
 }

@@ -6,11 +6,11 @@ use Rattle.nz_base.specs.Cluster.{replica_count}
 use Rattle.nz_base.specs.declared.scenario.Scenario.{Scenario}
 use Rattle.nz_machine.specs.declared.event.Record.{Record}
 use Rattle.nz_machine.specs.declared.journal.Journal.{Journal}
-use Rattle.nz_machine.specs.declared.tellings.ToldAt.{ToldAt}
+use Rattle.nz_machine.specs.declared.client_event.EventAt.{EventAt}
 use Rattle.nz_machine.specs.journals.Journals.{group_in, run_in}
 use Rattle.nz_machine.specs.runs.Schedule.{group_of, InOrder}
 use Rattle.nz_machine.specs.rules.State.{Group}
-use Rattle.nz_machine.specs.journals.Tellings.{AreNoted, told_by_run}
+use Rattle.nz_machine.specs.journals.EventNotes.{AreNoted, events_at}
 use Rattle.nz_machine.specs.runs.World.{World}
 use Rattle.nz_observe.specs.Following.{AreUpTo}
 use Rattle.nz_observe.specs.Observing.{IsObserving}
@@ -74,17 +74,17 @@ observed_next replica key before p old new tick found next now core looks observ
 
 -- ---- after the last tick
 
-pub unkept_is_printed : (report : Report) (s : Scenario) (w : Watched) (t : Scenario) (records : List Record) (told : List ToldAt)
+pub unkept_is_printed : (report : Report) (s : Scenario) (w : Watched) (t : Scenario) (records : List Record) (E : List EventAt)
     (cores : List ReplicaCore) (bytes : List ℕ) → IsWatched report w → scenario_of w.playing ≡ s → tick_of w.playing ≡ s.ticks
     → t ≡ scenario_of w.playing → reverse records ≡ run_of w.playing → InOrder (scenario_of w.playing) (reverse records)
     → World (group_of (scenario_of w.playing)) (reverse records)
-    → ((g : Group) (J : List Record) → AreNoted g J w.notes → told ≡ told_by_run g J)
+    → ((g : Group) (J : List Record) → AreNoted g J w.notes → E ≡ events_at g J)
     → AreCores (group_of (scenario_of w.playing)) (run_of w.playing) cores
-    → ((j : Journal) → j.scenario ≡ s → World (group_in j) (run_in j) → told ≡ told_by_run (group_in j) (run_in j)
+    → ((j : Journal) → j.scenario ≡ s → World (group_in j) (run_in j) → E ≡ events_at (group_in j) (run_in j)
     → AreCores (group_in j) (run_in j) cores → HasObserved report (group_in j) j.scenario.ticks (run_in j) w.observer
     → bytes ≡ printed_by report j)
     → IsPrinted report s (record { scenario = t; records = records }) bytes
-unkept_is_printed report s w t records told cores bytes h is last same run order world tells are_cores prints =
+unkept_is_printed report s w t records E cores bytes h is last same run order world reads are_cores prints =
     let p = w.playing in
     let j : Journal = record { scenario = t; records = records } in
     let here : (P : Scenario → List Record → Type 0) → P (scenario_of p) (run_of p) → P t (reverse records) =
@@ -98,7 +98,7 @@ unkept_is_printed report s w t records told cores bytes h is last same run order
       is_run = record { world = is_world; scheduled = scheduled_in_order t t.ticks (reverse records) in_order };
       in_order = in_order;
       text =
-          prints j (same ∙ is) is_world (tells (group_in j) (run_in j) (here (λ u J. AreNoted (group_of u) J w.notes) h.noted))
+          prints j (same ∙ is) is_world (reads (group_in j) (run_in j) (here (λ u J. AreNoted (group_of u) J w.notes) h.noted))
           (here (λ u J. AreCores (group_of u) J cores) are_cores)
           (here (λ u J. HasObserved report (group_of u) u.ticks J w.observer) seen);
     }

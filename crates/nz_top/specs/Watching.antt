@@ -6,7 +6,7 @@ use Rattle.nz_machine.specs.declared.journal.Journal.{Journal}
 use Rattle.nz_machine.specs.journals.Journals.{run_in}
 use Rattle.nz_machine.specs.runs.Schedule.{group_of, InOrder}
 use Rattle.nz_machine.specs.rules.State.{Group}
-use Rattle.nz_machine.specs.journals.Tellings.{AreNoted}
+use Rattle.nz_machine.specs.journals.EventNotes.{AreNoted}
 use Rattle.nz_observe.specs.Observing.{IsObserving}
 use Rattle.nz_observe.specs.declared.observer.Observer.{Observer}
 use Rattle.nz_run.specs.Playing.{IsAtEnd, scenario_of, tick_of, run_of}

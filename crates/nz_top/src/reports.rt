@@ -4,9 +4,8 @@ ghost use Rattle.nz_machine.specs.declared.event.Record.{Record};
 ghost use Rattle.nz_machine.specs.declared.journal.Journal.{Journal as JournalModel};
 ghost use Rattle.nz_machine.specs.runs.History.{history};
 ghost use Rattle.nz_machine.specs.journals.Journals.{group_in, run_in, executed_entries};
-ghost use Rattle.nz_machine.specs.runs.Schedule.{group_of};
 ghost use Rattle.nz_machine.specs.rules.State.{Group};
-ghost use Rattle.nz_machine.specs.journals.Tellings.{told_by_run};
+ghost use Rattle.nz_machine.specs.journals.EventNotes.{events_at};
 ghost use Rattle.nz_machine.specs.runs.World.{World};
 ghost use Rattle.nz_replica.specs.Models.{AreCores};
 ghost use Rattle.nz_story.specs.Story as stories;
@@ -20,9 +19,9 @@ ghost use Rattle.nz_top.specs.Reports.{printed_by, Admits};
 ghost use Rattle.nz_top.specs.Watching.{HasObserved};
 
 use nz_audit::{first_history, history_of};
-use nz_base::{Actor, Blob, Fault, Id, NoMemory, Scenario, VIEW_TIMEOUT_TICKS};
+use nz_base::{Actor, Blob, Cluster, Fault, Id, NoMemory, Scenario, VIEW_TIMEOUT_TICKS};
 use nz_locks::{first_foul, tenure_lines};
-use nz_machine::{Journal, ToldAt, ToldList, told_in};
+use nz_machine::{EventAt, Journal, client_events_in};
 use nz_observe::{Observer, observe};
 use nz_quiet::put_pace;
 use nz_replica::Replica;
@@ -95,9 +94,9 @@ fn run_text(alloc: Global, journal: &Journal, replicas: &[Replica]) -> Result<Bl
     requires replicas { AreCores (group_in journal.now) (run_in journal.now) replicas.now }
     ensures { IfOk result (λ bytes. bytes ≡ texts.text (group_in journal.now) (run_in journal.now)) }
 {
-    let told = told_in(alloc, journal)?;
-    let history = history_of(alloc, journal, told.as_slice(), replicas)?;
-    text(alloc, &journal.scenario, told, &history)
+    let events = client_events_in(alloc, journal)?;
+    let history = history_of(alloc, journal, events.as_slice(), replicas)?;
+    text(alloc, events.as_slice(), &history)
 }
 
 /// The summary of the run.
@@ -106,9 +105,9 @@ fn run_summary(alloc: Global, journal: &Journal, replicas: &[Replica]) -> Result
     requires replicas { AreCores (group_in journal.now) (run_in journal.now) replicas.now }
     ensures { IfOk result (λ bytes. bytes ≡ texts.summary (group_in journal.now) (run_in journal.now)) }
 {
-    let told = told_in(alloc, journal)?;
-    let history = history_of(alloc, journal, told.as_slice(), replicas)?;
-    summary(alloc, &journal.scenario, told, &history)
+    let events = client_events_in(alloc, journal)?;
+    let history = history_of(alloc, journal, events.as_slice(), replicas)?;
+    summary(alloc, events.as_slice(), &history)
 }
 
 /// The story of the run.
@@ -121,64 +120,64 @@ fn story(alloc: Global, journal: &Journal) -> Result<Blob, NoMemory>
     Ok(Blob::from_vec(bytes))
 }
 
-/// How many ticks the requests of a run took, by what its clients told.
-fn pace(alloc: Global, told: &[ToldAt]) -> Result<Blob, NoMemory>
-    ensures { IfOk result (λ bytes. (g : Group) (J : List Record) → World g J → told.now ≡ told_by_run g J → bytes ≡ pace_text g J) }
+/// How many ticks the requests of the run with these events took.
+fn pace(alloc: Global, events: &[EventAt]) -> Result<Blob, NoMemory>
+    ensures { IfOk result (λ bytes. (g : Group) (J : List Record) → events.now ≡ events_at g J → bytes ≡ pace_text g J) }
 {
     let mut bytes = Vec::new(alloc);
-    put_pace(alloc, &mut bytes, told)?;
+    put_pace(alloc, &mut bytes, events)?;
     Ok(Blob::from_vec(bytes))
 }
 
-/// The text of a run that stayed in its first view, None where it may not have. What the clients told is given, and so are
-/// the replicas after the last record.
-fn told_text(
+/// The text of a run that stayed in its first view, None where it may not have. The events of the clients are given, and
+/// so are the replicas after the last record.
+fn first_text(
     alloc: Global,
-    scenario: &Scenario,
-    told: ToldList,
+    cluster: Cluster,
+    events: &[EventAt],
     replicas: &[Replica],
 ) -> Result<Option<Blob>, NoMemory>
-    ensures { let g = group_of scenario.now in IfOk result (λ o. IfSome o (λ bytes. (J : List Record) → World g J
-        → told ≡ told_by_run g J → AreCores g J replicas.now → bytes ≡ texts.text g J)) }
+    ensures { IfOk result (λ o. IfSome o (λ bytes. (g : Group) (J : List Record) → g.f ≡ cluster → World g J
+        → events.now ≡ events_at g J → AreCores g J replicas.now → bytes ≡ texts.text g J)) }
 {
-    match first_history(alloc, scenario.cluster, told.as_slice(), replicas)? {
-        Some(history) => Ok(Some(text(alloc, scenario, told, &history)?)),
+    match first_history(alloc, cluster, events, replicas)? {
+        Some(history) => Ok(Some(text(alloc, events, &history)?)),
         None => Ok(None),
     }
 }
 
 /// The summary of such a run.
-fn told_summary(
+fn first_summary(
     alloc: Global,
-    scenario: &Scenario,
-    told: ToldList,
+    cluster: Cluster,
+    events: &[EventAt],
     replicas: &[Replica],
 ) -> Result<Option<Blob>, NoMemory>
-    ensures { let g = group_of scenario.now in IfOk result (λ o. IfSome o (λ bytes. (J : List Record) → World g J
-        → told ≡ told_by_run g J → AreCores g J replicas.now → bytes ≡ texts.summary g J)) }
+    ensures { IfOk result (λ o. IfSome o (λ bytes. (g : Group) (J : List Record) → g.f ≡ cluster → World g J
+        → events.now ≡ events_at g J → AreCores g J replicas.now → bytes ≡ texts.summary g J)) }
 {
-    match first_history(alloc, scenario.cluster, told.as_slice(), replicas)? {
-        Some(history) => Ok(Some(summary(alloc, scenario, told, &history)?)),
+    match first_history(alloc, cluster, events, replicas)? {
+        Some(history) => Ok(Some(summary(alloc, events, &history)?)),
         None => Ok(None),
     }
 }
 
 /// The tenures of the locks of such a run, and its text.
-fn told_tenures(
+fn first_tenures(
     alloc: Global,
-    scenario: &Scenario,
-    told: ToldList,
+    cluster: Cluster,
+    events: &[EventAt],
     replicas: &[Replica],
 ) -> Result<Option<Blob>, NoMemory>
-    ensures { let g = group_of scenario.now in IfOk result (λ o. IfSome o (λ bytes. (J : List Record) → World g J
-        → told ≡ told_by_run g J → AreCores g J replicas.now
+    ensures { IfOk result (λ o. IfSome o (λ bytes. (g : Group) (J : List Record) → g.f ≡ cluster → World g J
+        → events.now ≡ events_at g J → AreCores g J replicas.now
         → bytes ≡ hold_lines (executed_entries (history g J)) ++ (codes "text\n" ++ texts.text g J))) }
 {
-    let Some(history) = first_history(alloc, scenario.cluster, told.as_slice(), replicas)? else {
+    let Some(history) = first_history(alloc, cluster, events, replicas)? else {
         return Ok(None);
     };
     let head = tenure_lines(alloc, &history)?;
-    Ok(Some(headed(alloc, head, text(alloc, scenario, told, &history)?)?))
+    Ok(Some(headed(alloc, head, text(alloc, events, &history)?)?))
 }
 
 /// Whether the block may keep the leader of the first view from a replica for as long as a replica waits for it.
@@ -260,42 +259,43 @@ impl Report<'_> {
             }
             Report::Summary => run_summary(alloc, journal, replicas),
             Report::Locks => {
-                let told = told_in(alloc, journal)?;
-                let history = history_of(alloc, journal, told.as_slice(), replicas)?;
+                let events = client_events_in(alloc, journal)?;
+                let history = history_of(alloc, journal, events.as_slice(), replicas)?;
                 let head = tenure_lines(alloc, &history)?;
-                headed(alloc, head, text(alloc, &journal.scenario, told, &history)?)
+                headed(alloc, head, text(alloc, events.as_slice(), &history)?)
             }
             Report::Peek { replica, key } => {
                 let head = observe(alloc, journal, *replica, key.as_slice())?;
                 headed(alloc, head, run_text(alloc, journal, replicas)?)
             }
-            Report::Pace => pace(alloc, told_in(alloc, journal)?.as_slice()),
+            Report::Pace => pace(alloc, client_events_in(alloc, journal)?.as_slice()),
         }
     }
 
-    /// What is printed of a run of which no record is given, but what its clients told, what was observed of a replica, and
-    /// the replicas after the last record. None where the report needs the records.
-    pub fn print_told(
+    /// What is printed of a run of which no record is given, but the events of its clients, what was observed of a replica,
+    /// and the replicas after the last record. None where the report needs the records.
+    pub fn print_events(
         &self,
         alloc: Global,
         scenario: &Scenario,
-        told: ToldList,
+        events: &[EventAt],
         observer: Observer,
         replicas: &[Replica],
     ) -> Result<Option<Blob>, NoMemory>
         ensures { IfOk result (λ o. IfSome o (λ bytes. (j : JournalModel) → j.scenario ≡ scenario.now → World (group_in j) (run_in j)
-            → told ≡ told_by_run (group_in j) (run_in j) → AreCores (group_in j) (run_in j) replicas.now
+            → events.now ≡ events_at (group_in j) (run_in j) → AreCores (group_in j) (run_in j) replicas.now
             → HasObserved self.now (group_in j) j.scenario.ticks (run_in j) observer → bytes ≡ printed_by self.now j)) }
     {
+        let cluster = scenario.cluster;
         match self {
-            Report::Text => told_text(alloc, scenario, told, replicas),
-            Report::Summary => told_summary(alloc, scenario, told, replicas),
-            Report::Locks => told_tenures(alloc, scenario, told, replicas),
-            Report::Peek { .. } => match told_text(alloc, scenario, told, replicas)? {
+            Report::Text => first_text(alloc, cluster, events, replicas),
+            Report::Summary => first_summary(alloc, cluster, events, replicas),
+            Report::Locks => first_tenures(alloc, cluster, events, replicas),
+            Report::Peek { .. } => match first_text(alloc, cluster, events, replicas)? {
                 Some(text) => Ok(Some(headed(alloc, observer.into_blob(), text)?)),
                 None => Ok(None),
             },
-            Report::Pace => Ok(Some(pace(alloc, told.as_slice())?)),
+            Report::Pace => Ok(Some(pace(alloc, events)?)),
             Report::Trace | Report::Story => Ok(None),
         }
     }

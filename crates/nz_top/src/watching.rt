@@ -98,8 +98,10 @@ pub fn print_unkept(
         notes,
         observer,
     } = watch_all(alloc, report, scenario)?;
-    let told = notes.into_told();
-    let Some(bytes) = report.print_told(alloc, scenario, told, observer, playing.replicas())? else {
+    let events = notes.into_events();
+    let replicas = playing.replicas();
+    let Some(bytes) = report.print_events(alloc, scenario, events.as_slice(), observer, replicas)?
+    else {
         return Ok(None);
     };
     let (scenario, records) = playing.into_forgotten();

@@ -4,9 +4,10 @@ use Rattle.std.specs.Prelude.{length, map, filter, Option, Some, None, Result, O
 use Rattle.std.specs.List.{list_any}
 use Rattle.nz_base.specs.declared.actor.Actor.{Actor}
 use Rattle.nz_base.specs.declared.actor.Actor.TheVariants.{Proxy, Client}
-use Rattle.nz_base.specs.declared.key.Id.{Id}
+use Rattle.nz_base.specs.declared.scenario.Request.{Request as Scripted}
 use Rattle.nz_msg.specs.declared.envelope.Envelope.{Envelope}
 use Rattle.nz_msg.specs.declared.refusal.DecodeRefusal.{DecodeRefusal}
+use Rattle.nz_msg.specs.declared.message.AnswerBody.{AnswerBody}
 use Rattle.nz_msg.specs.declared.message.Message.{Message}
 use Rattle.nz_msg.specs.declared.message.Message.TheVariants.{Answer, Request}
 use Rattle.nz_msg.specs.Envelope.{decode_of}
@@ -15,31 +16,12 @@ use Rattle.nz_machine.specs.declared.event.Event.{Event}
 use Rattle.nz_machine.specs.declared.event.Event.TheVariants.{Deliver, Cut, Tick, Alarm, Crash, Restart}
 use Rattle.nz_machine.specs.declared.event.Parcel.{Parcel}
 use Rattle.nz_machine.specs.declared.event.Record.{Record}
-use Rattle.nz_machine.specs.declared.client_progress.Acceptance.{Acceptance}
-use Rattle.nz_machine.specs.declared.client_progress.Telling.{Telling}
 use Rattle.nz_machine.specs.rules.State.{ClientData, Group}
-use Rattle.nz_machine.specs.rules.Step.{envelope_for, script_of}
+use Rattle.nz_machine.specs.rules.Step.{envelope_for}
 use Rattle.nz_machine.specs.runs.World.{state_after}
-use Rattle.nz_machine.specs.runs.Events.{ClientEvent, Sent, Accepted, id_at, script_command}
-
--- ---- what a telling means
-
--- The event of an acceptance, if there is one.
-abbrev pub acceptance_events : Option Acceptance → List ClientEvent
-acceptance_events None = []
-acceptance_events (Some a) = Accepted a.id a.answer a.path ∷ []
-
--- The command of a request is that of its client's script.
-abbrev pub request_event : Group → Id → ClientEvent
-request_event g id = Sent id (script_command (script_of g id.client) id.num)
-
--- The events of some requests.
-abbrev pub request_events : Group → List Id → List ClientEvent
-request_events g ids = map (request_event g) ids
-
--- The events of a telling: the acceptance first.
-abbrev pub events_of_telling : Group → Telling → List ClientEvent
-events_of_telling g t = acceptance_events t.accepted ++ request_events g t.sent
+use Rattle.nz_machine.specs.declared.client_event.ClientEvent.{ClientEvent}
+use Rattle.nz_machine.specs.declared.client_event.ClientEvent.TheVariants.{Sent, Accepted}
+use Rattle.nz_machine.specs.runs.Events.{id_at, script_command}
 
 -- ---- how far the clients are
 
@@ -69,29 +51,33 @@ IsNoneOf count _ = Unit {0}
 -- ---- what one record shows of its client
 
 -- A proxy's answer with the number of an open request.
-abbrev pub acceptance_in : ℕ → Progress → Actor → Message → Option Acceptance
-acceptance_in c p (Proxy q) (Answer b) =
-    if list_any (λ num. num == b.num) p.waiting then Some (record { id = id_at c b.num; answer = b.answer; path = b.path }) else None
-acceptance_in c p _ _ = None
+abbrev pub answer_in : Progress → Actor → Message → Option AnswerBody
+answer_in p (Proxy q) (Answer b) = if list_any (λ num. num == b.num) p.waiting then Some b else None
+answer_in p _ _ = None
 
--- The acceptance in what a client reads, if it is one.
-abbrev pub acceptance_read : ℕ → Progress → Option Envelope → Option Acceptance
-acceptance_read c p None = None
-acceptance_read c p (Some e) = acceptance_in c p e.from e.message
+-- The answer to an open request in what a client reads, if it is one.
+abbrev pub answer_read : Progress → Option Envelope → Option AnswerBody
+answer_read p None = None
+answer_read p (Some e) = answer_in p e.from e.message
 
--- The acceptance, where the event delivers one.
-abbrev pub acceptance_of : ℕ → Progress → Event → Option Acceptance
-acceptance_of c p (Deliver parcel) = acceptance_read c p (envelope_for (Client c) parcel)
-acceptance_of c p (Cut kept parcel) = None
-acceptance_of c p (Tick clock) = None
-acceptance_of c p Alarm = None
-acceptance_of c p Crash = None
-acceptance_of c p (Restart nonce) = None
+-- The same, where the event delivers one.
+abbrev pub answer_of : ℕ → Progress → Event → Option AnswerBody
+answer_of c p (Deliver parcel) = answer_read p (envelope_for (Client c) parcel)
+answer_of c p (Cut kept parcel) = None
+answer_of c p (Tick clock) = None
+answer_of c p Alarm = None
+answer_of c p Crash = None
+answer_of c p (Restart nonce) = None
 
--- What is accepted is no longer open.
-abbrev pub with_answer : Progress → Option Acceptance → Progress
+-- What is answered is no longer open.
+abbrev pub with_answer : Progress → Option AnswerBody → Progress
 with_answer p None = p
-with_answer p (Some a) = record p { waiting = filter (λ num. not (num == a.id.num)) p.waiting }
+with_answer p (Some b) = record p { waiting = filter (λ num. not (num == b.num)) p.waiting }
+
+-- The client accepts the answer, if there is one.
+abbrev pub acceptance : ℕ → Option AnswerBody → List ClientEvent
+acceptance c None = []
+acceptance c (Some b) = Accepted (id_at c b.num) b.answer b.path ∷ []
 
 -- The number of the request in a message.
 abbrev pub num_in : Message → Option ℕ
@@ -107,10 +93,10 @@ num_read (Ok e) = num_in e.message
 unfoldable pub num_of : Parcel → Option ℕ
 num_of parcel = num_read (decode_of parcel.frame)
 
--- A request is new exactly where its number is above those of all that were sent.
-abbrev pub new_in : ℕ → Progress → Option ℕ → List Id
-new_in c p None = []
-new_in c p (Some num) = if nat_lt p.sent num then id_at c num ∷ [] else []
+-- A request is new exactly where its number is above those of all that were sent. Its command is that of the script.
+abbrev pub new_in : ℕ → List Scripted → Progress → Option ℕ → List ClientEvent
+new_in c script p None = []
+new_in c script p (Some num) = if nat_lt p.sent num then Sent (id_at c num) (script_command script num) ∷ [] else []
 
 -- A request of a greater number than all before is new, and open.
 abbrev pub with_num : Progress → Option ℕ → Progress
@@ -118,19 +104,19 @@ with_num p None = p
 with_num p (Some num) = if nat_lt p.sent num then record { sent = num; waiting = p.waiting ++ num ∷ [] } else p
 
 -- The new requests among those with these numbers, in their order.
-abbrev pub new_among : ℕ → Progress → List (Option ℕ) → List Id
-new_among c p [] = []
-new_among c p (num ∷ nums) = new_in c p num ++ new_among c (with_num p num) nums
+abbrev pub new_among : ℕ → List Scripted → Progress → List (Option ℕ) → List ClientEvent
+new_among c script p [] = []
+new_among c script p (num ∷ nums) = new_in c script p num ++ new_among c script (with_num p num) nums
 
 -- The same of several requests in turn.
 abbrev pub with_all : Progress → List (Option ℕ) → Progress
 with_all p [] = p
 with_all p (num ∷ nums) = with_all (with_num p num) nums
 
--- What the record of a client says, and how far the client is then.
-abbrev pub after_client_record : ℕ → Progress → Event → List Parcel → Telling × Progress
-after_client_record c p e sends =
-    let accepted = acceptance_of c p e in
-    let free = with_answer p accepted in
+-- The events of a client's record, and how far the client is then.
+abbrev pub after_client_record : ℕ → List Scripted → Progress → Event → List Parcel → List ClientEvent × Progress
+after_client_record c script p e sends =
+    let answer = answer_of c p e in
+    let free = with_answer p answer in
     let nums = map num_of sends in
-    (record { accepted = accepted; sent = new_among c free nums }, with_all free nums)
+    (acceptance c answer ++ new_among c script free nums, with_all free nums)

@@ -4,22 +4,17 @@ use Rattle.nz_base.specs.declared.actor.Actor.{Actor}
 use Rattle.nz_base.specs.declared.actor.Actor.TheVariants.{Replica, Proxy, Client}
 use Rattle.nz_base.specs.declared.key.Id.{Id}
 use Rattle.nz_base.specs.declared.scenario.Request.{Request}
-use Rattle.nz_store.specs.declared.command.Answer.{Answer as AnswerModel}
 use Rattle.nz_msg.specs.declared.envelope.Envelope.{Envelope}
-use Rattle.nz_msg.specs.declared.message.Path.{Path}
 use Rattle.nz_msg.specs.declared.message.Message.{Message}
 use Rattle.nz_msg.specs.declared.message.Message.TheVariants.{Answer}
+use Rattle.nz_machine.specs.declared.client_event.ClientEvent.{ClientEvent}
+use Rattle.nz_machine.specs.declared.client_event.ClientEvent.TheVariants.{Sent, Accepted}
 use Rattle.nz_machine.specs.declared.event.Event.{Event}
 use Rattle.nz_machine.specs.declared.event.Event.TheVariants.{Deliver, Cut, Tick, Alarm, Crash, Restart}
 use Rattle.nz_machine.specs.declared.event.Record.{Record}
 use Rattle.nz_machine.specs.rules.State.{ClientData, Group}
 use Rattle.nz_machine.specs.rules.Step.{accepted_envelope, script_of}
 use Rattle.nz_machine.specs.runs.World.{state_after}
-
--- A client sent a request for the first time, or accepted its answer.
-pub data ClientEvent : Type 0 where
-  Sent : (id : Id) (command : List ℕ) → ClientEvent
-  Accepted : (id : Id) (answer : AnswerModel) (path : Path) → ClientEvent
 
 -- The id of a client's request.
 abbrev pub id_at : ℕ → ℕ → Id

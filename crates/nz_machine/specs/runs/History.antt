@@ -22,7 +22,9 @@ use Rattle.nz_machine.specs.rules.State.{Group, Standing, Open, Decided}
 use Rattle.nz_machine.specs.rules.Quorums.{Chosen, decision, reply_eq, with_note}
 use Rattle.nz_machine.specs.rules.Proxies.{standing_of, of_fast, of_slow}
 use Rattle.nz_machine.specs.runs.World.{state_after}
-use Rattle.nz_machine.specs.runs.Events.{ClientEvent, Accepted, read_in, client_events}
+use Rattle.nz_machine.specs.declared.client_event.ClientEvent.{ClientEvent}
+use Rattle.nz_machine.specs.declared.client_event.ClientEvent.TheVariants.{Accepted}
+use Rattle.nz_machine.specs.runs.Events.{read_in, client_events}
 
 -- ---- where a parcel comes from
 
@@ -171,7 +173,7 @@ entries_or (Some es) = es
 
 -- The accepted prefix of a record that accepts, else nothing.
 abbrev pub prefix_in : Group → List ClientEvent → Event → List Record → List Entry
-prefix_in g (Accepted id answer path ∷ told) (Deliver p) J = entries_or (accepted_prefix g id p J)
+prefix_in g (Accepted id answer path ∷ rest) (Deliver p) J = entries_or (accepted_prefix g id p J)
 prefix_in g _ _ J = []
 
 -- The longer of two lists, the old one where they are equally long.

@@ -22,7 +22,9 @@ use Rattle.nz_machine.specs.rules.State.{Group}
 use Rattle.nz_machine.specs.rules.Replicas.{commands}
 use Rattle.nz_machine.specs.rules.Step.{parcel}
 use Rattle.nz_machine.specs.runs.World.{Has}
-use Rattle.nz_machine.specs.runs.Events.{ClientEvent, Sent, Accepted, client_events}
+use Rattle.nz_machine.specs.declared.client_event.ClientEvent.{ClientEvent}
+use Rattle.nz_machine.specs.declared.client_event.ClientEvent.TheVariants.{Sent, Accepted}
+use Rattle.nz_machine.specs.runs.Events.{client_events}
 use Rattle.nz_machine.specs.runs.History.{log_at, cut_after, accepted_prefix}
 
 -- x comes before y.

@@ -1,5 +1,5 @@
 -- What the function of this folder owes, proved.
 use Rattle.nz_audit.proofs.history.history_of.Goals as goal
 
-pub searched-requires-clause-accepted : goal.searched-requires-clause-accepted
-searched-requires-clause-accepted c = c.in_ok-accepted.ensures c.args.journal.now c.requires.world c.requires.told
+pub search_history-requires-clause-accepted : goal.search_history-requires-clause-accepted
+search_history-requires-clause-accepted c = c.in_ok-accepted.ensures c.args.journal.now c.requires.world c.requires.events

@@ -4,8 +4,8 @@ use Rattle.nz_base.specs.declared.key.Entry.{Entry}
 use Rattle.nz_machine.specs.journals.Journals.{run_in, executed_entries}
 use Rattle.nz_machine.proofs.runs.Runs.{all_has}
 use Rattle.nz_audit.specs.Prefixes.{IsBest, IsBestIfAny, IsWithin, all_traced}
-use Rattle.nz_audit.proofs.Longest.{first_of_all}
-use Rattle.nz_audit.proofs.Found.{nothing_accepted}
+use Rattle.nz_audit.proofs.LongestPrefixes.{first_of_all}
+use Rattle.nz_audit.proofs.SearchFinds.{nothing_accepted}
 use Rattle.nz_audit.proofs.history.longest_history.Goals as goal
 
 pub returns-in-None : goal.returns-in-None
@@ -15,15 +15,15 @@ returns-in-None c =
     let none = subst (IsBestIfAny j all) c.in-None.is c.in_ok-weigh_in_rounds.ensures.best in
     c.new.ensures ∙ sym (ap executed_entries (nothing_accepted j (run_in j) all c.requires.accepted.history none))
 
-pub executed-requires-clause-within : goal.executed-requires-clause-within
-executed-requires-clause-within c =
+pub execute_prefix-requires-clause-within : goal.execute_prefix-requires-clause-within
+execute_prefix-requires-clause-within c =
     let j = c.args.journal.now in
     let all = all_traced j c.args.accepted.items in
     let h : IsBest j all c.in-Some.best = subst (IsBestIfAny j all) c.in-Some.is c.in_ok-weigh_in_rounds.ensures.best in
-    all_has (IsWithin j) all c.in-Some.best.accepted c.requires.accepted.history.within h.among
+    all_has (IsWithin j) all c.in-Some.best.answer c.requires.accepted.history.within h.among
 
-pub executed-requires-clause-counted : goal.executed-requires-clause-counted
-executed-requires-clause-counted c =
+pub execute_prefix-requires-clause-counted : goal.execute_prefix-requires-clause-counted
+execute_prefix-requires-clause-counted c =
     let j = c.args.journal.now in
     let all = all_traced j c.args.accepted.items in
     let h : IsBest j all c.in-Some.best = subst (IsBestIfAny j all) c.in-Some.is c.in_ok-weigh_in_rounds.ensures.best in
@@ -37,4 +37,4 @@ returns-in-Some c =
     let told = c.requires.accepted.history in
     let h : IsBest j all b = subst (IsBestIfAny j all) c.in-Some.is c.in_ok-weigh_in_rounds.ensures.best in
     let whole = told.longest ∙ first_of_all j b (length (run_in j)) all told.places h in
-    subst (λ (es : List Entry). IfOk c.executed.result (λ x. x ≡ executed_entries es)) (sym whole) c.executed.ensures
+    subst (λ (es : List Entry). IfOk c.execute_prefix.result (λ x. x ≡ executed_entries es)) (sym whole) c.execute_prefix.ensures

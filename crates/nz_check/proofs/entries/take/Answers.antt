@@ -7,16 +7,16 @@ use Rattle.nz_base.specs.Key.{id_eq}
 use Rattle.nz_store.specs.Entries.{Entries}
 use Rattle.nz_store.specs.Sequence.{apply_bytes}
 use Rattle.nz_machine.specs.rules.Quorums.{answer_eq}
-use Rattle.nz_text.specs.declared.printed.Event.{Event}
+use Rattle.nz_machine.specs.declared.client_event.ClientEvent.{ClientEvent}
 use Rattle.nz_check.specs.Noting.{is_sent_at}
 use Rattle.nz_check.proofs.Applied.{first_test, sent_test, unsent_test, reach_test, open_test, below_is, above_is}
 use Rattle.nz_check.proofs.Applied.{repeats, is_unsent, lacks_lines, is_early, differs, fits}
 use Rattle.nz_check.proofs.entries.take.Goals as goal
 
-sent_is_told : (E F : List Event) (command bytes : List ℕ) (place : ℕ) → F ≡ E → bytes ≡ command
+sent_is_told : (E F : List ClientEvent) (command bytes : List ℕ) (place : ℕ) → F ≡ E → bytes ≡ command
     → is_sent_at E place command ≡ is_sent_at F place bytes
 sent_is_told E F command bytes place same spelled =
-    ap (λ (l : List Event). is_sent_at l place command) (sym same) ∙ ap (is_sent_at F place) (sym spelled)
+    ap (λ (l : List ClientEvent). is_sent_at l place command) (sym same) ∙ ap (is_sent_at F place) (sym spelled)
 
 pub returns-then-not-is_first : goal.returns-then-not-is_first
 returns-then-not-is_first c = repeats c.args.printed.now c.args.place c.args.entry.now c.requires.entry c.args.store.now

@@ -1,7 +1,7 @@
 -- What the function of this folder owes, proved.
 use Rattle.std.proofs.Common.{◌+◌, [], List, take, sym, ap, subst, ◌∙◌, arith}
 use Rattle.std.proofs.lemmas.List.{take_all}
-use Rattle.nz_text.specs.declared.printed.Event.{Event}
+use Rattle.nz_machine.specs.declared.client_event.ClientEvent.{ClientEvent}
 use Rattle.nz_check.specs.Checked.{first_line, whys, event_why}
 use Rattle.nz_check.specs.Noting.{AreNoted}
 use Rattle.nz_check.proofs.Passes.{next_line, wrong_line, no_line, take_one, taken}
@@ -19,7 +19,7 @@ loop-event-preserved c =
     let t = c.in_ok-why.ensures (take i E) inv.noted (taken E i lt ∙ sym same) in
     record {
       place = omega (arith, same);
-      noted = subst (λ (l : List Event). AreNoted p.history l c.take.new.self) (sym (take_one E i e lt c.event-item.is)) (t.noted c.in_default.is);
+      noted = subst (λ (l : List ClientEvent). AreNoted p.history l c.take.new.self) (sym (take_one E i e lt c.event-item.is)) (t.noted c.in_default.is);
       first = next_line (event_why p) E i (c.loop-event.place + 1) e _ lt c.event-item.is (sym t.found ∙ c.in_default.is) inv.first;
     }
 
@@ -34,7 +34,7 @@ returns-in-Some c =
       verdict =
           wrong_line (event_why p) E i (c.loop-event.place + 1) c.event-item.result c.in-Some.why _ c.loop-event-test.true c.event-item.is
           (sym t.found ∙ c.in-Some.is) inv.first
-          ∙ ap (λ (l : List Event). first_line 1 (whys (event_why p) [] l)) c.as_slice-events.ensures;
+          ∙ ap (λ (l : List ClientEvent). first_line 1 (whys (event_why p) [] l)) c.as_slice-events.ensures;
       noted = λ e. absurd cc;
     }
 
@@ -47,6 +47,6 @@ returns c =
     record {
       verdict =
           no_line (event_why p) E i (c.loop-event.place + 1) _ c.loop-event-test.false inv.first
-          ∙ ap (λ (l : List Event). first_line 1 (whys (event_why p) [] l)) c.as_slice-events.ensures;
-      noted = λ e. subst (λ (l : List Event). AreNoted p.history l c.loop-event.noted) (take_all i E c.loop-event-test.false ∙ c.as_slice-events.ensures) inv.noted;
+          ∙ ap (λ (l : List ClientEvent). first_line 1 (whys (event_why p) [] l)) c.as_slice-events.ensures;
+      noted = λ e. subst (λ (l : List ClientEvent). AreNoted p.history l c.loop-event.noted) (take_all i E c.loop-event-test.false ∙ c.as_slice-events.ensures) inv.noted;
     }

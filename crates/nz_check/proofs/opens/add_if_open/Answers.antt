@@ -13,15 +13,15 @@ pub returns-in-Some : goal.returns-in-Some
 returns-in-Some c = λ H E h.
     sym (append-nil c.args.ids.now)
     ∙ ap (λ (ids : List Id). c.args.ids.now ++ ids)
-    (sym (closed H E c.args.noted.now c.args.event.now c.in-Send.id _ c.in-Some.sent h c.in-Send.is c.in-Some.ensures c.if-sent.true))
+    (sym (closed H E c.args.noted.now c.args.event.now c.in-Sent.id _ c.in-Some.sent h c.in-Sent.is c.in-Some.ensures c.if-sent.true))
 
 pub returns-in_default-of : goal.returns-in_default-of
 returns-in_default-of c = λ H E h.
-    let away : list_any (accepts_it c.in-Send.id) E ≡ false = elim c.in_default-of.branch [
+    let away : list_any (accepts_it c.in-Sent.id) E ≡ false = elim c.in_default-of.branch [
       | in_default-of-via-in-Some+else-sent w ↦
-          away_of_some H E c.args.noted.now c.in-Send.id w.in-Some.sent h w.in-Some.ensures w.if-sent.false
+          away_of_some H E c.args.noted.now c.in-Sent.id w.in-Some.sent h w.in-Some.ensures w.if-sent.false
       | in_default-of-via-in_default-of w ↦
-          away_of_none H E c.args.noted.now c.in-Send.id h (sym c.of.ensures ∙ w.in_default-of.is)
+          away_of_none H E c.args.noted.now c.in-Sent.id h (sym c.of.ensures ∙ w.in_default-of.is)
     ] in
     subst (λ (ids : List Id). OnOk c.push.result (c.push.new.self ≡ c.args.ids.now ++ ids))
-    (sym (open_still H E c.args.noted.now c.args.event.now c.in-Send.id _ c.in-Send.is away)) c.push.ensures.ok
+    (sym (open_still H E c.args.noted.now c.args.event.now c.in-Sent.id _ c.in-Sent.is away)) c.push.ensures.ok

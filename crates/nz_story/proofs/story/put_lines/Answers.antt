@@ -1,10 +1,11 @@
 -- What the function of this folder owes, proved.
 use Rattle.std.proofs.Common.{List, ◌++◌, ap, ◌∙◌}
-use Rattle.nz_machine.specs.journals.Journals.{group_in}
+use Rattle.nz_machine.specs.declared.client_event.ClientEvent.{ClientEvent}
 use Rattle.nz_machine.specs.declared.event.Parcel.{Parcel}
 use Rattle.nz_replay.specs.Runs.{run_up_to}
 use Rattle.nz_story.specs.Fates.{sends_lines, sent_by_run}
 use Rattle.nz_story.specs.Passes.{counts_of}
+use Rattle.nz_story.specs.Story.{events_text}
 use Rattle.nz_story.proofs.Following.{world_at, followed_next, number_within, in_turn}
 use Rattle.nz_story.proofs.story.put_lines.Goals as goal
 
@@ -20,7 +21,7 @@ returns-clause-followed c =
     let f = c.requires.followed in
     let w = world_at journal c.args.place c.args.next.now c.requires.world c.requires.at in
     followed_next journal c.args.place c.args.next.now _ c.requires.at
-    (c.in_ok-put_events.ensures.after J w f.clients)
+    (c.in_ok-events.ensures.after J w f.clients)
     (c.put_replica.ensures.count ∙ f.count)
     c.in_ok-put_replica.ensures.watched
     (c.in_ok-put_sends.ensures.counted (sent_by_run J) f.sent
@@ -32,7 +33,9 @@ returns-clause-written c =
     let J = run_up_to journal c.args.place in
     let f = c.requires.followed in
     let w = world_at journal c.args.place c.args.next.now c.requires.world c.requires.at in
-    in_turn c.args.out.now.items _ _ _ _ _ _ (c.in_ok-put_events.ensures.written J w f.clients)
+    in_turn c.args.out.now.items _ _ _ _ _ _
+    (c.in_ok-put_events.ensures ∙ ap (λ (E : List ClientEvent). c.args.out.now.items ++ events_text E)
+    (c.as_slice.ensures ∙ c.in_ok-events.ensures.events J w f.clients))
     c.in_ok-put_replica.ensures.written
     (c.in_ok-put_sends.ensures.written (sent_by_run J) f.sent
     ∙ ap (λ (ps : List Parcel). c.put_replica.new.out.items ++ sends_lines journal.scenario c.args.next.now.tick (sent_by_run J) ps) c.as_slice-sends.ensures)

@@ -3,7 +3,7 @@ use Rattle.std.proofs.Common.{◌++◌, ◌∷◌, [], List, replicate, ap, subs
 use Rattle.std.proofs.lemmas.List.{replicate_more}
 use Rattle.nz_machine.specs.runs.Schedule.{group_of}
 use Rattle.nz_machine.specs.journals.ClientProgress.{Progress, first_progress, AreAfter}
-use Rattle.nz_machine.proofs.journals.ProgressIsTold.{first_after}
+use Rattle.nz_machine.proofs.journals.EventsAreRead.{first_after}
 use Rattle.nz_machine.proofs.client_progress.Clients.new.Goals as goal
 
 pub loop-preserved : goal.loop-preserved
