@@ -21,13 +21,13 @@ use Rattle.nz_machine.proofs.journals.InTurn.{Rises, rises_most, InTurn, if_due_
 use Rattle.nz_machine.proofs.journals.EventsAreRead.{own_command}
 
 -- a request that is sent has a number of the client, and the script's command
-pub record HasCommand (script : List Request) (sent num : ℕ) (command : List ℕ) : Type 0 where
+pub record IsScripted (script : List Request) (sent num : ℕ) (command : List ℕ) : Type 0 where
   pub some : 0 < num
   pub sent_before : num ≤ sent
   pub own : command ≡ script_command script num
 
 abbrev pub AskedFrom : List Request → ℕ → Message → Type 0
-AskedFrom script sent (messages.Request b) = HasCommand script sent b.num b.command
+AskedFrom script sent (messages.Request b) = IsScripted script sent b.num b.command
 AskedFrom script sent _ = ⊥
 
 abbrev pub AllAsked : List Request → ℕ → List Out → Type 0

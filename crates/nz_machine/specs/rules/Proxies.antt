@@ -68,9 +68,8 @@ after_choice s id replies (Some chosen) = after_chosen_answer s id replies chose
 
 -- A reply to a request that is open is noted. Another one changes nothing.
 abbrev pub after_replica_reply : ℕ → ProxyData → Id → Reply → Option Standing → ProxyData × List Out
-after_replica_reply f s id reply None = (s, [])
-after_replica_reply f s id reply (Some (Decided answer path)) = (s, [])
 after_replica_reply f s id reply (Some (Open replies)) = let noted = with_note replies reply in after_choice s id noted (decision f noted)
+after_replica_reply f s id reply _ = (s, [])
 
 -- Each reply's delay is a sample of its replica.
 unfoldable pub reply_rule : ℕ → ProxyData → ℕ → Id → ℕ → Reply → ProxyData × List Out

@@ -35,10 +35,9 @@ is_changing _ = false
 
 -- In normal operation or in a view change, so neither down nor rejoining.
 abbrev pub is_up : Status → Bool
-is_up Normal = true
-is_up ViewChange = true
 is_up Rejoining = false
 is_up Down = false
+is_up _ = true
 
 -- On the way back after a crash.
 abbrev pub is_rejoining : Status → Bool

@@ -43,29 +43,20 @@ first g (Client c) = first_client
 -- A replica that sends is of the cluster.
 abbrev pub is_in_cluster : ℕ → Actor → Bool
 is_in_cluster f (Replica r) = nat_lt r (replica_count f)
-is_in_cluster f (Proxy p) = true
-is_in_cluster f (Client c) = true
+is_in_cluster f _ = true
 
 -- The crash vector of a message, if it carries one.
 abbrev pub message_vector : Message → Option (List ℕ)
-message_vector (messages.Request b) = None
-message_vector (messages.Timed b) = None
 message_vector (messages.FastReply b) = Some b.vector
-message_vector (messages.SlowReply b) = None
-message_vector (messages.Answer b) = None
 message_vector (messages.LogMod b) = Some b.vector
-message_vector (messages.Fetch b) = None
-message_vector (messages.FetchReply b) = None
-message_vector (messages.SyncReport b) = None
-message_vector (messages.ViewAsk b) = None
 message_vector (messages.ViewChange b) = Some b.vector
 message_vector (messages.StartView b) = Some b.vector
-message_vector (messages.VectorAsk b) = None
 message_vector (messages.VectorTell b) = Some b.vector
 message_vector (messages.RejoinAsk b) = Some b.vector
 message_vector (messages.RejoinTell b) = Some b.vector
 message_vector (messages.StateAsk b) = Some b.vector
 message_vector (messages.StateTell b) = Some b.vector
+message_vector _ = None
 
 -- A vector has a counter for each replica.
 abbrev pub is_sized : ℕ → Option (List ℕ) → Bool
@@ -158,8 +149,7 @@ tick_step g (Client c) s clock = wait_rule g.window g.proxies c (script_of g c) 
 -- Alarms are for replicas.
 abbrev pub alarm_step : Group → (a : Actor) → State a → State a × List Out
 alarm_step g (Replica r) s = alarm_rule g.f r s
-alarm_step g (Proxy p) s = (s, [])
-alarm_step g (Client c) s = (s, [])
+alarm_step g _ s = (s, [])
 
 -- Clients do not crash.
 abbrev pub crash_step : Group → (a : Actor) → State a → State a × List Out

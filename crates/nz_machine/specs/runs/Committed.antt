@@ -23,8 +23,7 @@ view_at_decision g p id K = option_map view_of (deciding_reply g p id K)
 -- The same, from the record that first sent the answer, which is of a proxy.
 abbrev pub view_of_sender : Group → Id → Actor → List Record → Option ℕ
 view_of_sender g id (Proxy p) K = option_and_then (view_at_decision g p id) (decision_moment g p id K)
-view_of_sender g id (Replica m) K = None
-view_of_sender g id (Client c) K = None
+view_of_sender g id _ K = None
 
 -- The view in which an answer that was accepted was decided.
 abbrev pub accepted_view : Group → Id → Parcel → List Record → Option ℕ

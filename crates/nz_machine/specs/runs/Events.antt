@@ -32,11 +32,7 @@ script_command script num = command_of_request (slice_get script (num - 1))
 -- What an actor reads in an event.
 abbrev pub read_in : Group → Actor → Event → Option Envelope
 read_in g a (Deliver p) = accepted_envelope g.f a p
-read_in g a (Cut kept p) = None
-read_in g a (Tick clock) = None
-read_in g a Alarm = None
-read_in g a Crash = None
-read_in g a (Restart nonce) = None
+read_in g a _ = None
 
 -- The count of acceptances rose: the answer was accepted.
 abbrev pub accepted_in : ℕ → ClientData → ClientData → Message → List ClientEvent

@@ -55,8 +55,7 @@ standing_after g p id J = standing_of (state_after g (Proxy p) J) id
 -- Whether the proxy has decided the request.
 abbrev pub is_decided : Option Standing → Bool
 is_decided (Some (Decided answer path)) = true
-is_decided (Some (Open replies)) = false
-is_decided None = false
+is_decided _ = false
 
 -- The run up to the record with which the proxy decided the request since it last restarted, where it has.
 abbrev pub decision_moment : Group → ℕ → Id → List Record → Option (List Record)
@@ -66,8 +65,7 @@ decision_moment g p id (r ∷ J) = if is_decided (standing_after g p id (r ∷ J
 -- The replies that are noted while a request is open.
 abbrev pub replies_of : Option Standing → List Reply
 replies_of (Some (Open replies)) = replies
-replies_of (Some (Decided answer path)) = []
-replies_of None = []
+replies_of _ = []
 
 -- The reply to this request that a proxy reads, if it reads one.
 abbrev pub reply_in : Id → Actor → Message → Option Reply
@@ -105,11 +103,7 @@ noting_moment g p id reply (r ∷ J) =
 -- The parcel that an event delivers whole.
 abbrev pub parcel_in : Event → Option Parcel
 parcel_in (Deliver p) = Some p
-parcel_in (Cut kept p) = None
-parcel_in (Tick clock) = None
-parcel_in Alarm = None
-parcel_in Crash = None
-parcel_in (Restart nonce) = None
+parcel_in _ = None
 
 -- The parcel that the last record delivers.
 abbrev pub parcel_delivered : List Record → Option Parcel
@@ -119,8 +113,7 @@ parcel_delivered (r ∷ J) = parcel_in r.event
 -- The log of a replica after the records. Other actors have none.
 abbrev pub log_at : Group → Actor → List Record → List Entry
 log_at g (Replica m) J = (state_after g (Replica m) J).log.entries
-log_at g (Proxy p) J = []
-log_at g (Client c) J = []
+log_at g _ J = []
 
 -- The entries up to and with the one at a place, none where there is no place.
 abbrev pub cut_at : Option ℕ → List Entry → List Entry
@@ -151,8 +144,7 @@ source_at_decision g p id K = option_and_then (source_of_reply g p id K) (decidi
 -- The same, from the record that first sent the answer, which is of a proxy.
 abbrev pub source_of_sender : Group → Id → Actor → List Record → Option ReplySource
 source_of_sender g id (Proxy p) K = option_and_then (source_at_decision g p id) (decision_moment g p id K)
-source_of_sender g id (Replica m) K = None
-source_of_sender g id (Client c) K = None
+source_of_sender g id _ K = None
 
 -- The source of the reply that an accepted answer comes from; the parcel brought the answer.
 abbrev pub accepted_source : Group → Id → Parcel → List Record → Option ReplySource

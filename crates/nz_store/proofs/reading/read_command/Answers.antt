@@ -18,7 +18,7 @@ none_of (Ok o) bytes h = none_is o bytes h
 none_of (Err e) bytes h = tt
 
 pub returns-clause-some : goal.returns-clause-some
-returns-clause-some c = some_of c.found.result c.args.bytes.now c.found.ensures
+returns-clause-some c = some_of c.command_if_any.result c.args.bytes.now c.command_if_any.ensures
 
 pub returns-clause-none : goal.returns-clause-none
-returns-clause-none c = none_of c.found.result c.args.bytes.now c.found.ensures
+returns-clause-none c = none_of c.command_if_any.result c.args.bytes.now c.command_if_any.ensures

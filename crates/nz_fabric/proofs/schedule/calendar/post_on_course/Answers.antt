@@ -7,7 +7,8 @@ use Rattle.nz_machine.specs.runs.Schedule.{Delivery, whole_in}
 use Rattle.nz_machine.specs.declared.event.Parcel.{Parcel}
 use Rattle.nz_fabric.specs.declared.schedule.course.Traffic.{Traffic}
 use Rattle.nz_fabric.specs.schedule.Calendars.{course, items_in, may_strike, next_number, traffic_on, HasLines}
-use Rattle.nz_fabric.specs.schedule.Posting.{arrival_of, arrivals_by, arrivals_up_to, days_of, delivery_as_stored, items_arriving, AreKept, ArePlaced, HasNumber}
+use Rattle.nz_fabric.specs.schedule.Posting.{arrival_of, arrivals_by, arrivals_up_to, days_of, delivery_as_stored, items_arriving, AreKept, ArePlaced}
+use Rattle.nz_fabric.specs.schedule.Posting.{HasNumber}
 use Rattle.nz_fabric.proofs.calendars.Sending.{on_err}
 use Rattle.nz_fabric.proofs.calendars.Striking.{kept_suffice}
 use Rattle.nz_fabric.proofs.schedule.calendar.post_on_course.Goals as goal

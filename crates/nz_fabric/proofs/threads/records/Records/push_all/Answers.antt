@@ -7,7 +7,8 @@ use Rattle.nz_machine.specs.declared.event.Record.{Record}
 use Rattle.nz_machine.specs.runs.Schedule.{group_of}
 use Rattle.nz_fabric.specs.threads.Records.{AddsSome, steps_of}
 use Rattle.nz_fabric.specs.threads.Steps.{batch_records, with_steps}
-use Rattle.nz_fabric.proofs.several_threads.Pushing.{Batched, ArePushed, pushed_start, pushed_at, pushed_sent, pushed_next, pushed_end, pushed_count, pushed_whole, pushed_some}
+use Rattle.nz_fabric.proofs.several_threads.Pushing.{Batched, ArePushed, pushed_start, pushed_at, pushed_sent, pushed_next, pushed_end, pushed_count}
+use Rattle.nz_fabric.proofs.several_threads.Pushing.{pushed_whole, pushed_some}
 use Rattle.nz_fabric.proofs.threads.records.Records.push_all.Goals as goal
 
 pub loop-event-init : goal.loop-event-init
