@@ -78,25 +78,21 @@ pub sent : (g : Group) (own : ActorSteps) (meaning : Node) (batch : Batch) (es :
     → meaning ≡ node_after g own → sends ≡ sends_from g meaning es → sends ≡ sends_in g own batch
 sent g own meaning batch es sends are stands e = e ∙ ap (λ (n : Node). sends_from g n es) stands ∙ ap (sends_from g (node_after g own)) are
 
--- the core comes to where the events lead the actor after its records
-pub arrived : (g : Group) (own : ActorSteps) (old new : Node) (batch : Batch) (es : List Event) → es ≡ batch.events
-    → old ≡ node_after g own → new ≡ node_from g old es → new ≡ node_from g (node_after g own) batch.events
-arrived g own old new batch es are stands e = e ∙ ap (λ (n : Node). node_from g n es) stands ∙ ap (node_from g (node_after g own)) are
-
 -- the core is there after the batch, where this was recorded
-pub acting_after : (g : Group) (own now : ActorSteps) (new : Node) (live : Bool) (fits : Type 0) (tick : ℕ) (batch : Batch)
-    (sends : List (List Parcel)) (known : Type 0) (recorded : Bool) → fits → live ≡ true
-    → new ≡ node_from g (node_after g own) batch.events → sends ≡ sends_in g own batch → batch.actor ≡ own.actor
+pub acting_after : (g : Group) (own now : ActorSteps) (old new : Node) (live : Bool) (fits : Type 0) (tick : ℕ) (batch : Batch) (es : List Event)
+    (sends : List (List Parcel)) (known : Type 0) (recorded : Bool) → fits → live ≡ true → es ≡ batch.events → old ≡ node_after g own
+    → new ≡ node_from g old es → sends ≡ sends_in g own batch → batch.actor ≡ own.actor
     → MatchBool recorded (known × (now ≡ with_steps (batch_records tick batch.actor batch.events sends) own)) (now.actor ≡ own.actor)
     → IsActing g new live fits (record { own = now; ready = recorded })
-acting_after g own now new live fits tick batch sends known recorded is_of lives node sent same lane =
+acting_after g own now old new live fits tick batch es sends known recorded is_of lives are stands node sent same lane =
     let long = ap length sent ∙ length-sends_from g (node_after g own) batch.events in
     record {
       is_of = is_of;
       there = λ is. record {
         lives = lives;
         stands =
-            node ∙ sym (node_with_steps g own tick batch.actor batch.events sends same long)
+            node ∙ ap (λ (n : Node). node_from g n es) stands ∙ ap (node_from g (node_after g own)) are
+            ∙ sym (node_with_steps g own tick batch.actor batch.events sends same long)
             ∙ ap (node_after g) (sym (subst (λ (b : Bool). MatchBool b
             (known × (now ≡ with_steps (batch_records tick batch.actor batch.events sends) own)) (now.actor ≡ own.actor)) is lane).1);
       };

@@ -6,54 +6,52 @@ use Rattle.nz_machine.specs.runs.Schedule.{group_of}
 use Rattle.nz_fabric.specs.declared.threads.batch.Batch.{Batch}
 use Rattle.nz_fabric.specs.threads.Records.{steps_of}
 use Rattle.nz_fabric.specs.threads.Shared.{IsGivenUp, with_record}
-use Rattle.nz_fabric.specs.threads.Steps.{node_after}
 use Rattle.nz_fabric.specs.alone.States.{records_of}
 use Rattle.nz_actor.specs.Actings.{Acting, sends_in}
-use Rattle.nz_actor.proofs.Batches.{acting_after, arrived, played, sent}
-use Rattle.nz_actor.proofs.state.ActorState.settle.Given.{Over}
+use Rattle.nz_actor.proofs.Batches.{acting_after, played, sent}
 use Rattle.nz_actor.proofs.state.ActorState.settle.Goals as goal
-
-events_are : (g : Over) (c : goal.In-Ok g) → c.as_slice.result.now ≡ c.args.batch.events
-events_are g c = c.as_slice.ensures ∙ ap (λ (b : Batch). b.events) c.batch.ensures
-
--- before the batch the core has the state that the records lead to
-is_there : (g : Over) (c : goal.In-Ok g) → g.C.Core.meaning c.self.inside.core ≡ node_after (group_of g.N.RunName.scenario) c.self.inside.lane
-is_there g c = (c.self.invariant.there (ap (λ (a : Acting). a.ready) c.self.view_is ∙ c.requires.ready)).stands
-
-sends_are : (g : Over) (c : goal.In-Ok g) → c.in-Ok.sends.items ≡ sends_in (group_of g.N.RunName.scenario) c.self.inside.lane c.args.batch
-sends_are g c =
-    let group = group_of g.N.RunName.scenario in
-    sent group c.self.inside.lane (g.C.Core.meaning c.self.inside.core) c.args.batch c.as_slice.result.now c.in-Ok.sends.items (events_are g c)
-    (is_there g c) (c.in-Ok.ensures.sends group c.self.invariant.is_of)
 
 pub invariant_of-self-2 : goal.invariant_of-self-2
 invariant_of-self-2 g c =
     let group = group_of g.N.RunName.scenario in
     let s = c.self.inside in
     let batch = c.args.batch in
-    let new = c.step_all.new.core in
-    let at = (goal.at.invariant_of-self-2 g c).In-Ok in
-    acting_after group s.lane c.record-self-inside.new.lane (g.C.Core.meaning new) (g.C.Core.live new) (g.C.Core.fits new group)
-    c.args.fabric.now.run.tick batch c.in-Ok.sends.items (s.lane ≡ steps_of batch.actor (records_of c.args.fabric.now.run)) c.record-self-inside.result
-    (c.step_all.ensures.fits group c.self.invariant.is_of) c.in-Ok.ensures.live
-    (arrived group s.lane (g.C.Core.meaning s.core) (g.C.Core.meaning new) batch c.as_slice.result.now (events_are g at) (is_there g at)
-    (c.in-Ok.ensures.node group c.self.invariant.is_of)) (sends_are g at)
+    let es = c.as_slice.result.now in
+    let are = c.as_slice.ensures ∙ ap (λ (b : Batch). b.events) c.batch.ensures in
+    let there = c.self.invariant.there (ap (λ (a : Acting). a.ready) c.self.view_is ∙ c.requires.ready) in
+    let sends =
+    sent group s.lane (g.C.Core.meaning s.core) batch es c.in-Ok.sends.items are there.stands (c.in-Ok.ensures.sends group c.self.invariant.is_of) in
+    acting_after group s.lane c.record-self-inside.new.lane (g.C.Core.meaning s.core) (g.C.Core.meaning c.step_all.new.core)
+    (g.C.Core.live c.step_all.new.core) (g.C.Core.fits c.step_all.new.core group) c.args.fabric.now.run.tick batch es c.in-Ok.sends.items
+    (s.lane ≡ steps_of batch.actor (records_of c.args.fabric.now.run)) c.record-self-inside.result
+    (c.step_all.ensures.fits group c.self.invariant.is_of) c.in-Ok.ensures.live are there.stands (c.in-Ok.ensures.node group c.self.invariant.is_of) sends
     (c.requires.actor ∙ sym (ap (λ (a : Acting). a.own.actor) c.self.view_is)) c.record-self-inside.ensures.lane
 
 pub returns-clause-recorded : goal.returns-clause-recorded
 returns-clause-recorded g c =
+    let group = group_of g.N.RunName.scenario in
     let s = c.self.inside in
     let batch = c.args.batch in
+    let es = c.as_slice.result.now in
+    let are = c.as_slice.ensures ∙ ap (λ (b : Batch). b.events) c.batch.ensures in
+    let there = c.self.invariant.there (ap (λ (a : Acting). a.ready) c.self.view_is ∙ c.requires.ready) in
+    let sends =
+    sent group s.lane (g.C.Core.meaning s.core) batch es c.in-Ok.sends.items are there.stands (c.in-Ok.ensures.sends group c.self.invariant.is_of) in
     rw (← c.self.view_is)
-    (played (group_of g.N.RunName.scenario) s.lane c.record-self-inside.new.lane batch c.args.fabric.now.run.tick c.in-Ok.sends.items
-    (s.lane ≡ steps_of batch.actor (records_of c.args.fabric.now.run)) c.record-self-inside.result s.ready
-    (sends_are g (goal.at.returns-clause-recorded g c).In-Ok) c.record-self-inside.ensures.lane)
+    (played group s.lane c.record-self-inside.new.lane batch c.args.fabric.now.run.tick c.in-Ok.sends.items
+    (s.lane ≡ steps_of batch.actor (records_of c.args.fabric.now.run)) c.record-self-inside.result s.ready sends c.record-self-inside.ensures.lane)
 
 pub returns-clause-fabric : goal.returns-clause-fabric
 returns-clause-fabric g c =
+    let group = group_of g.N.RunName.scenario in
+    let s = c.self.inside in
     let batch = c.args.batch in
+    let es = c.as_slice.result.now in
+    let are = c.as_slice.ensures ∙ ap (λ (b : Batch). b.events) c.batch.ensures in
+    let there = c.self.invariant.there (ap (λ (a : Acting). a.ready) c.self.view_is ∙ c.requires.ready) in
+    let sends =
+    sent group s.lane (g.C.Core.meaning s.core) batch es c.in-Ok.sends.items are there.stands (c.in-Ok.ensures.sends group c.self.invariant.is_of) in
     subst (λ (sends : List (List Parcel)). MatchBool c.record-self-inside.result
     (c.record-self-inside.new.self ≡ with_record batch.number sends c.args.fabric.now)
     (IsGivenUp batch.number c.args.fabric.now c.record-self-inside.new.self))
-    (sends_are g (goal.at.returns-clause-fabric g c).In-Ok
-    ∙ ap (λ (a : Acting). sends_in (group_of g.N.RunName.scenario) a.own batch) c.self.view_is) c.record-self-inside.ensures.recorded
+    (sends ∙ ap (λ (a : Acting). sends_in group a.own batch) c.self.view_is) c.record-self-inside.ensures.recorded
