@@ -8,6 +8,6 @@ returns c =
     let gone = c.into_forgotten-scenario.ensures in
     let watched = c.in_ok-playing.ensures in
     unkept_is_printed c.args.report.now c.args.scenario.now _ c.into_forgotten-scenario.result.0 c.into_forgotten-scenario.result.1
-    c.as_slice.result.now c.replicas.result.now c.in-Some.bytes watched.watched watched.scenario watched.last
+    c.as_slice.result.now c.replicas-replicas.result.now c.in-Some.bytes watched.watched watched.scenario watched.last
     gone.scenario gone.records gone.in_order gone.world (λ g J noted. c.as_slice.ensures ∙ c.into_events-events.ensures g J noted)
-    c.replicas.ensures.cores (rw c.in-Some.is at c.in_ok-bytes.ensures)
+    c.replicas-replicas.ensures.cores (rw c.in-Some.is at c.in_ok-bytes.ensures)
