@@ -50,7 +50,8 @@ fn message_line(
     Ok(format!(in alloc; "{kind} {from} {to} {first} {second} {header}{body}")?)
 }
 
-fn refusal_line(alloc: Global, refusal: FrameRefusal) -> Result<String, NoMemory> {
+/// Why the bytes are no frame, and where.
+pub fn refusal_line(alloc: Global, refusal: FrameRefusal) -> Result<String, NoMemory> {
     let (why, place) = match refusal {
         FrameRefusal::Short { place } => ("short", place),
         FrameRefusal::TooLong { place } => ("too long", place),

@@ -1,15 +1,17 @@
-//! Reads what other programs worked out, a line each, and prints how our readers and writers answer: frames,
-//! commands and calls of a store in hexadecimal, and keys whose digests a log has.
+//! Reads what was worked out elsewhere, a line each, and prints how our readers and writers answer: frames, streams of
+//! items, commands and calls of a store in hexadecimal, and keys whose digests a log has.
 #![tactic(auto)]
 
 mod commands;
 mod frames;
 mod hex;
+mod items;
 mod keys;
 
 use commands::{answer_of, spelled_again};
 use frames::{frame_line, frame_of, is_short_at_each_end};
 use hex::bytes_of;
+use items::items_line;
 use keys::digests_of;
 use nz_base::NoMemory;
 use nz_store::Store;
@@ -30,8 +32,8 @@ impl From<NoMemory> for Stop {
     }
 }
 
-/// What a line of this sort is answered: `frame` and `prefixes` are of a frame, `command` and `apply` of a command
-/// that is read and written again or that the one store executes, `digests` of keys.
+/// What a line of this sort is answered: `frame` and `prefixes` are of a frame, `items` is of a stream of items,
+/// `command` and `apply` of a command that is read and written again or that the one store executes, `digests` of keys.
 fn answer(alloc: Global, store: &mut Store, sort: &str, rest: &str) -> Result<String, Stop> {
     if sort == "digests" {
         return Ok(digests_of(alloc, rest)?);
@@ -41,6 +43,8 @@ fn answer(alloc: Global, store: &mut Store, sort: &str, rest: &str) -> Result<St
         Ok(frame_line(alloc, &frame_of(alloc, &bytes)?)?)
     } else if sort == "prefixes" {
         Ok(is_short_at_each_end(alloc, &bytes)?)
+    } else if sort == "items" {
+        Ok(items_line(alloc, &bytes)?)
     } else if sort == "command" {
         Ok(spelled_again(alloc, &bytes)?)
     } else if sort == "apply" {

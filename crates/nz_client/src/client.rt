@@ -1,6 +1,6 @@
 //! A client as a core.
 
-ghost use Rattle.std.specs.Prelude.{◌≡◌, ◌≤◌, ◌↔◌, true, OnOk, IsTrue};
+ghost use Rattle.std.specs.Prelude.{◌≡◌, ◌<◌, ◌≤◌, ◌↔◌, ◌∷◌, ◌++◌, [], true, OnOk, OnErr, IsTrue};
 ghost use Rattle.nz_base.specs.declared.actor.Actor.TheVariants as actors;
 ghost use Rattle.nz_base.specs.declared.limits.TheConstants.{MAX_CLIENT, MAX_PROXIES, MAX_WINDOW};
 ghost use Rattle.nz_msg.specs.Fields.{command};
@@ -8,10 +8,10 @@ ghost use Rattle.nz_machine.specs.rules.State.{Group};
 ghost use Rattle.nz_machine.specs.rules.Clients as clients;
 ghost use Rattle.nz_machine.specs.rules.Clients.{first_client};
 ghost use Rattle.nz_machine.specs.rules.Step.{event_step, envelope_step, client_message, accepted_envelope};
-ghost use Rattle.nz_client.specs.Models.{ClientDoes, AreSendable, IsClientInGroup, IsSameClient, least_open};
+ghost use Rattle.nz_client.specs.Models.{ClientDoes, IsSendable, AreSendable, IsClientInGroup, IsSameClient, least_open};
 
 use crate::state::ClientState;
-use nz_base::{Actor, MAX_COMMAND, NoMemory, RequestList};
+use nz_base::{Actor, MAX_COMMAND, NoMemory, Request, RequestList};
 use nz_machine::{Core, Event, Outbox, Parcel, Sends, heard};
 use nz_msg::{Envelope, Message, decode};
 use std::alloc::Global;
@@ -84,6 +84,23 @@ impl Client {
         ensures { result ≡ clients.is_open num self.now.model.state.attempts }
     {
         self.state.is_open(num)
+    }
+
+    /// How many ticks were counted.
+    pub fn ticks(&self) -> u32
+        ensures { result ≡ self.now.model.state.ticks }
+    {
+        self.state.ticks()
+    }
+
+    /// Puts the request after all others of the script. It is not due yet, so each step so far is as with it.
+    pub fn append(&mut self, request: Request) -> Result<(), NoMemory>
+        requires sendable { IsSendable request }
+        requires later { self.old.model.state.ticks < request.wait }
+        ensures ok { OnOk result (self.new ≡ record self.old { model = record self.old.model { script = self.old.model.script ++ request ∷ [] } }) }
+        ensures err { OnErr result (self.new ≡ self.old) }
+    {
+        self.state.append(request)
     }
 
     /// How many requests were accepted.

@@ -2,6 +2,8 @@
 #![tactic(auto)]
 
 mod client;
+mod laws;
 mod state;
 
 pub use client::{Client, are_sendable};
+pub use laws::requests_not_due_change_nothing;

@@ -1,6 +1,6 @@
 //! The state of a client, and its rules.
 
-ghost use Rattle.std.specs.Prelude.{◌≡◌, ◌+◌, ◌-◌, ◌%◌, ◌<◌, ◌≤◌, ◌++◌, ◌∷◌, ◌==◌, [], map, length, OnOk, IsTrue, IfSome, min, slice_get};
+ghost use Rattle.std.specs.Prelude.{◌≡◌, ◌+◌, ◌-◌, ◌%◌, ◌<◌, ◌≤◌, ◌++◌, ◌∷◌, ◌==◌, [], map, length, OnOk, OnErr, IsTrue, IfSome, min, slice_get};
 ghost use Rattle.std.specs.List.{AllByRecursion};
 ghost use Rattle.std.specs.Option.{option_copied};
 ghost use Rattle.nz_base.specs.Actor.{HasAddress};
@@ -109,6 +109,25 @@ impl ClientState {
         ensures { result ≡ self.now.state.accepted }
     {
         self.accepted
+    }
+
+    /// How many ticks were counted.
+    pub fn ticks(&self) -> u32
+        ensures { result ≡ self.now.state.ticks }
+    {
+        self.ticks
+    }
+
+    /// Puts the request after all others of the script.
+    pub fn append(&mut self, request: Request) -> Result<(), NoMemory>
+        requires sendable { IsSendable request }
+        ensures ok { OnOk result (self.new ≡ record self.old { script = self.old.script ++ request ∷ [] }) }
+        ensures err { OnErr result (self.new ≡ self.old) }
+    {
+        self.script.push(request)?;
+        // A list is no longer than a u32 counts.
+        let _ = self.script.len();
+        Ok(())
     }
 
     /// The request at this place of the script, if there is one.

@@ -2,7 +2,6 @@
 use Rattle.std.proofs.Common.{◌≡◌, ℕ, ◌++◌, ◌≤◌, ◌<◌, Bool, true, not, eqb, List, [], ◌∷◌, map, length, refl, sym, subst, ◌∙◌, inl, inr, arith}
 use Rattle.std.specs.Prelude.{slice_index}
 use Rattle.std.specs.List.{filter}
-use Rattle.std.proofs.lemmas.Bool.Decides.{nat_tests}
 use Rattle.nz_base.specs.Cluster.{replica_count, slow_size}
 use Rattle.nz_cv.specs.Vectors.{is_stray, merged_vector}
 use Rattle.nz_msg.specs.declared.message.RejoinTellBody.{RejoinTellBody}

@@ -1,5 +1,5 @@
 -- A tick sends a fast reply for each entry that it releases, and no other.
-use Rattle.std.proofs.Common.{◌≡◌, ℕ, suc, ◌+◌, ◌-◌, ◌≤◌, Bool, true, false, List, [], ◌∷◌, ◌++◌, length, Option, Some, None}
+use Rattle.std.proofs.Common.{◌≡◌, ℕ, suc, ◌+◌, ◌-◌, ◌≤◌, true, List, [], ◌∷◌, ◌++◌, length, Option, Some, None}
 use Rattle.std.proofs.Common.{refl, sym, ap, subst, ◌∙◌, inl, inr, arith, length-append}
 use Rattle.std.specs.Map.{lookup}
 use Rattle.std.proofs.lemmas.Bool.{lt-ltb, cases_Bool, cond_both, and_from, and_parts}
@@ -8,14 +8,13 @@ use Rattle.nz_base.specs.declared.key.Entry.{Entry}
 use Rattle.nz_base.specs.Key.{id_eq, id_of}
 use Rattle.nz_base.specs.Log.{keys_of, AreRising}
 use Rattle.nz_base.specs.declared.limits.TheConstants.{MAX_ENTRIES}
-use Rattle.nz_log.specs.Synced.{Log}
 use Rattle.nz_buffers.specs.Buffers.{is_due, released}
 use Rattle.nz_buffers.proofs.Releasing.{none_due}
 use Rattle.nz_machine.proofs.runs.Due.{entries_appended}
 use Rattle.nz_machine.specs.declared.data.Origin.{Origin}
 use Rattle.nz_machine.specs.rules.State.{ReplicaData, Out}
 use Rattle.nz_machine.specs.rules.Replicas.{leads, fast_replies}
-use Rattle.nz_machine.specs.rules.Releases.{log_with_entry, after_release, log_has_room, may_release, release_replies, releases}
+use Rattle.nz_machine.specs.rules.Releases.{after_release, log_has_room, may_release, release_replies, releases}
 use Rattle.nz_machine.specs.runs.World.{Has}
 use Rattle.nz_machine.proofs.runs.Runs.{has_left, has_right, has_split}
 use Rattle.nz_quiet.specs.Replicas.{IsRepliedTo, IsReplyOf}

@@ -48,7 +48,7 @@ inside_send N name ledger send =
             search sendable,
             (
               search (sendable, crosses, batches_send) depth 40 fits 20000,
-              (search (sendable, crosses, book_send) depth 40 fits 20000, (search (sendable, crosses, pacing_send) depth 40 fits 20000, tt)),
+              (search (sendable, crosses, book_send) depth 40 fits 20000, (search (sendable, pacing_send), tt)),
             ),
           ),
         ),

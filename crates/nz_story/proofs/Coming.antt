@@ -14,7 +14,7 @@ use Rattle.nz_base.specs.Log.{keys_of, has_key, AreRising}
 use Rattle.nz_base.proofs.Booleans.{true_and_false}
 use Rattle.nz_base.proofs.Keys.{key_below-self, never_both}
 use Rattle.nz_base.proofs.Logs.{has_first, has_later, keys_append, rising_prefix, rising_back}
-use Rattle.nz_base.proofs.Names.{key_eq_self, same_key}
+use Rattle.nz_base.proofs.Names.{same_key}
 use Rattle.nz_machine.proofs.lists.ListParts.{take_next}
 use Rattle.nz_story.specs.States.{came, came_text}
 

@@ -19,7 +19,6 @@ use Rattle.nz_msg.specs.declared.message.Message.{Message}
 use Rattle.nz_msg.specs.declared.message.Message.TheVariants as messages
 use Rattle.nz_machine.specs.declared.data.Reported.{Reported}
 use Rattle.nz_machine.specs.rules.State.{ReplicaData, Out}
-use Rattle.nz_machine.specs.rules.Facts.{FitsEntry, FitsReport, HasFacts}
 use Rattle.nz_machine.specs.rules.Replicas.{leads, is_down, first_replica}
 use Rattle.nz_machine.specs.rules.Releases.{after_release}
 use Rattle.nz_machine.specs.rules.Views.{alarm_rule}
@@ -29,7 +28,7 @@ use Rattle.nz_machine.specs.rules.Rejoining.{crash_rule, restart_rule}
 use Rattle.nz_machine.specs.runs.World.{Has}
 use Rattle.nz_machine.specs.rules.LogMods.{entry_of_id, synced_with, is_still_early}
 use Rattle.nz_machine.specs.rules.Step.{replica_message, tick_rule}
-use Rattle.nz_machine.proofs.lists.EachItem.{all_append, all_of_prefix, all_back, all_filter, all_insert}
+use Rattle.nz_machine.proofs.lists.EachItem.{all_append, all_filter, all_insert}
 use Rattle.nz_machine.proofs.lists.ListParts.{all_take, all_drop, find_each}
 use Rattle.nz_machine.specs.runs.Hearing.{Heard}
 use Rattle.nz_machine.proofs.moves.Moves.{Brings, BringsLog, MaySync, HearsReport, Interval, Move, ToEarly, ToLate}

@@ -1,6 +1,6 @@
 -- What the code keeps of a replica, at the calls by which it collects what others told.
 use Rattle.nz_base.specs.declared.limits.TheConstants.{MAX_VIEW}
-use Rattle.std.proofs.Common.{◌≡◌, ℕ, ◌-◌, ◌<◌, ◌^◌, max, subst, List, [], ◌∷◌, ◌++◌, length, refl, sym, eq-eqb}
+use Rattle.std.proofs.Common.{◌≡◌, ℕ, ◌<◌, max, subst, List, [], ◌∷◌, ◌++◌, length, refl, sym, eq-eqb}
 use Rattle.std.specs.Prelude.{◌==◌, if◌then◌else◌, slice_index}
 use Rattle.std.specs.List.{list_any}
 use Rattle.nz_base.specs.Cluster.{replica_count}

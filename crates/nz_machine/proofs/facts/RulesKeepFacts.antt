@@ -31,7 +31,7 @@ use Rattle.nz_machine.specs.rules.Facts.{FitsEntry, IsKnown, AreCounters, AreArr
 use Rattle.nz_machine.specs.rules.Replicas.{is_normal, is_up, leads, key_with_deadline, commands, first_replica, crashed_replica}
 use Rattle.nz_machine.specs.rules.Requests.{to_early, entry_at, next_deadline}
 use Rattle.nz_machine.specs.rules.Rejoining.{restarted_replica}
-use Rattle.nz_machine.specs.rules.Releases.{log_with_entry, results_with_entry, after_release, log_has_room, may_release, at_clock}
+use Rattle.nz_machine.specs.rules.Releases.{log_with_entry, results_with_entry, after_release, log_has_room, may_release}
 use Rattle.nz_machine.proofs.lists.EachItem.{all_append, all_imply, all_replicate}
 use Rattle.nz_machine.proofs.lists.ListParts.{insert_each}
 use Rattle.nz_machine.proofs.lists.Tables.{merged_counters}

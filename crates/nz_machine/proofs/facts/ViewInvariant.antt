@@ -12,7 +12,7 @@ use Rattle.nz_log.specs.Synced.{Log}
 use Rattle.nz_msg.specs.declared.message.ViewChangeBody.{ViewChangeBody}
 use Rattle.nz_merge.specs.Merged.{greatest, merged}
 use Rattle.nz_machine.specs.declared.data.Status.{Status}
-use Rattle.nz_machine.specs.declared.data.Status.TheVariants.{Normal, ViewChange, Rejoining, Down}
+use Rattle.nz_machine.specs.declared.data.Status.TheVariants.{Normal, ViewChange, Rejoining}
 use Rattle.nz_machine.specs.declared.data.Reported.{Reported}
 use Rattle.nz_machine.specs.rules.State.{ReplicaData}
 use Rattle.nz_machine.specs.rules.Facts.{IsCarried, FitsReport, HasFacts, IsKeptReplica}

@@ -1,6 +1,6 @@
 -- The words of views, of adopting a log, and of a rejoin keep what a replica's state always has.
 use Rattle.std.proofs.Common.{ℕ, ◌+◌, ◌<◌, ◌≤◌, ◌^◌, not, eqb, Bool, List, [], ◌∷◌, ◌++◌, length, map}
-use Rattle.std.proofs.Common.{IsTrue, IsFalse, refl, sym, subst, ◌∙◌, arith, append_assoc, append-nil}
+use Rattle.std.proofs.Common.{IsFalse, refl, sym, subst, ◌∙◌, arith, append_assoc, append-nil}
 use Rattle.std.specs.Prelude.{◌==◌, if◌then◌else◌, slice_index, slice_set}
 use Rattle.std.specs.List.{AllByRecursion, filter, list_any}
 use Rattle.std.proofs.lemmas.Bool.Decides.{nat_tests}
@@ -8,7 +8,7 @@ use Rattle.std.proofs.lemmas.List.{length-set, length-replicate}
 use Rattle.std.proofs.lemmas.Bool.{cond_both}
 use Rattle.nz_base.specs.Cluster.{replica_count, leader_of}
 use Rattle.nz_base.specs.declared.key.Entry.{Entry}
-use Rattle.nz_base.specs.declared.limits.TheConstants.{MAX_ENTRIES, MAX_VIEW, VIEW_TIMEOUT_TICKS, REJOIN_ASK_TICKS}
+use Rattle.nz_base.specs.declared.limits.TheConstants.{MAX_ENTRIES, MAX_VIEW}
 use Rattle.nz_cv.specs.Vectors.{is_stray}
 use Rattle.nz_math.specs.Count.{AreDistinct}
 use Rattle.nz_merge.specs.Merged.{AreFit, greatest, merged}
@@ -25,9 +25,8 @@ use Rattle.nz_machine.specs.declared.data.Rejoin.{Rejoin}
 use Rattle.nz_machine.specs.declared.data.ToldView.{ToldView}
 use Rattle.nz_machine.specs.rules.State.{ReplicaData}
 use Rattle.nz_machine.specs.rules.Facts.{FitsEntry, AreCounters, IsCarried, FitsReport, FitsTold, AreClocks, AreHeld, AreReports, IsRejoin, HasFacts}
-use Rattle.nz_machine.specs.rules.Replicas.{is_rejoining, commands}
+use Rattle.nz_machine.specs.rules.Replicas.{commands}
 use Rattle.nz_machine.specs.rules.Views.{in_view_change}
-use Rattle.nz_machine.specs.rules.LogMods.{after_hearing}
 use Rattle.nz_machine.specs.rules.Adopting.{with_log, normal_in}
 use Rattle.nz_machine.specs.rules.Begins.{report_of, with_report, without_strays, changes_of, after_begin}
 use Rattle.nz_machine.specs.rules.Rejoining.{last_counter, with_teller, with_new_counter, ask_views, with_tells, with_tell, latest_view, ask_log}

@@ -1,17 +1,16 @@
 -- Each move keeps what a replica's state always has.
-use Rattle.std.proofs.Common.{◌≡◌, ℕ, ◌+◌, ◌-◌, ◌<◌, ◌≤◌, ◌^◌, eqb, true, false, List, [], ◌∷◌, ◌++◌, length}
+use Rattle.std.proofs.Common.{◌≡◌, ℕ, ◌-◌, ◌<◌, ◌≤◌, ◌^◌, eqb, true, List, [], ◌∷◌, ◌++◌, length}
 use Rattle.std.proofs.Common.{map, Some, refl, sym, ap, subst, ◌∙◌, arith, eq-eqb, None, inl, inr, IsFalse}
-use Rattle.std.specs.Prelude.{IfSome, ◌==◌, max, min, slice_index}
+use Rattle.std.specs.Prelude.{IfSome, ◌==◌, max, min}
 use Rattle.std.specs.List.{AllByRecursion}
 use Rattle.std.proofs.lemmas.Bool.{ltb-true, not-true, and_parts, cond_both}
-use Rattle.std.proofs.lemmas.Bool.Decides.{nat_tests}
 use Rattle.nz_base.specs.Cluster.{replica_count}
 use Rattle.nz_base.specs.Actor.{HasAddress}
 use Rattle.nz_base.specs.declared.actor.Actor.{Actor}
 use Rattle.nz_base.specs.declared.actor.Actor.TheVariants.{Replica, Proxy}
 use Rattle.nz_base.specs.declared.key.Entry.{Entry}
 use Rattle.nz_base.specs.Key.{id_of}
-use Rattle.nz_base.specs.declared.limits.TheConstants.{MAX_ENTRIES, MAX_VIEW, VIEW_TIMEOUT_TICKS, REJOIN_ASK_TICKS}
+use Rattle.nz_base.specs.declared.limits.TheConstants.{MAX_ENTRIES, MAX_VIEW}
 use Rattle.nz_merge.specs.Merged.{greatest, merged}
 use Rattle.nz_msg.specs.Fields as fields
 use Rattle.nz_msg.specs.Fields.{vector}
@@ -34,15 +33,14 @@ use Rattle.nz_msg.specs.declared.message.Message.{Message}
 use Rattle.nz_msg.specs.declared.message.Message.TheVariants as messages
 use Rattle.nz_msg.specs.Messages.{Fits, timed, log_mod, fetch_reply, view_ask, view_change, start_view}
 use Rattle.nz_msg.specs.Messages.{vector_tell, rejoin_ask, rejoin_tell, state_ask, state_tell}
-use Rattle.nz_machine.specs.declared.data.Status.{Status}
-use Rattle.nz_machine.specs.declared.data.Status.TheVariants.{Normal, ViewChange, Rejoining, Down}
+use Rattle.nz_machine.specs.declared.data.Status.TheVariants.{ViewChange}
 use Rattle.nz_machine.specs.rules.State.{ReplicaData, Out}
 use Rattle.nz_machine.specs.rules.Facts.{FitsEntry, AreCounters, IsCarried, FitsReport, AreClocks, HasMode}
 use Rattle.nz_machine.specs.rules.Facts.{AreApart, AreTables, AreExecuted, AreReports, IsRejoin, HasFacts}
-use Rattle.nz_machine.specs.rules.Replicas.{is_changing, is_rejoining, is_down}
+use Rattle.nz_machine.specs.rules.Replicas.{is_down}
 use Rattle.nz_machine.specs.rules.Requests.{with_origin, origin_of, request_rule}
 use Rattle.nz_machine.specs.rules.Releases.{release_rule}
-use Rattle.nz_machine.specs.rules.LogMods.{synced_with, overtaken_to_late, with_ack, with_commit, log_mod_rule, fetch_rule, fetch_reply_rule, sync_report_rule}
+use Rattle.nz_machine.specs.rules.LogMods.{synced_with, overtaken_to_late, with_commit, log_mod_rule, fetch_rule, fetch_reply_rule, sync_report_rule}
 use Rattle.nz_machine.specs.rules.Views.{alarm_rule, view_ask_rule}
 use Rattle.nz_machine.specs.rules.Adopting.{normal_in, start_view_rule}
 use Rattle.nz_machine.specs.rules.Begins.{report_of, changes_of, view_change_rule}
@@ -57,8 +55,7 @@ use Rattle.nz_machine.proofs.facts.KeysKeepFacts.{apart_held, apart_synced, foun
 use Rattle.nz_machine.proofs.facts.SyncKeepsFacts.{keys_fit, entries_fit}
 use Rattle.nz_machine.proofs.facts.Carried.{carried_of_fit, at_least_of_fit}
 use Rattle.nz_machine.proofs.facts.SentFields.{vector_counts}
-use Rattle.nz_machine.proofs.lists.Tables.{set_long, reported_low, noted_low}
-use Rattle.nz_machine.proofs.facts.Guards.{IsLeader, normal_up}
+use Rattle.nz_machine.proofs.facts.Guards.{normal_up}
 use Rattle.nz_machine.proofs.facts.SyncKeepsFacts.{commit_keeps, tallied_low, ack_keeps}
 use Rattle.nz_machine.proofs.facts.RulesKeepFacts.{entry_fits, has_place_left, crashed_has_facts, restarted_has_facts}
 use Rattle.nz_machine.proofs.facts.RulesKeepFacts.{origin_keeps, vector_keeps, waiting_keeps, early_keeps, released_keeps}

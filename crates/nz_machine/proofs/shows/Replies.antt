@@ -24,7 +24,7 @@ use Rattle.nz_machine.specs.declared.data.Status.TheVariants.{Normal, ViewChange
 use Rattle.nz_machine.specs.rules.State.{ReplicaData, Out}
 use Rattle.nz_machine.specs.rules.Replicas.{is_normal, is_changing, is_up, is_rejoining, leads, fast_replies, slow_replies}
 use Rattle.nz_machine.specs.rules.Requests.{with_origin, replies_at, after_timed, after_new_request, request_rule}
-use Rattle.nz_machine.specs.rules.Releases.{log_with_entry, results_with_entry, after_release, release_replies, may_release, releases, at_clock, release_rule}
+use Rattle.nz_machine.specs.rules.Releases.{results_with_entry, after_release, release_replies, may_release, releases, at_clock, release_rule}
 use Rattle.nz_machine.specs.rules.LogMods.{log_mods_to_others}
 use Rattle.nz_machine.specs.rules.Views.{enter_view}
 use Rattle.nz_machine.specs.rules.Step.{mode_timer, tick_rule}

@@ -6,7 +6,7 @@ use Rattle.std.specs.Str.{bytes_eq}
 use Rattle.nz_base.specs.Actor.{actor_eq}
 use Rattle.nz_base.specs.Key.{id_eq}
 use Rattle.nz_base.specs.declared.actor.Actor.{Actor}
-use Rattle.nz_base.specs.declared.actor.Actor.TheVariants.{Replica, Proxy, Client}
+use Rattle.nz_base.specs.declared.actor.Actor.TheVariants.{Replica, Proxy}
 use Rattle.nz_base.specs.declared.key.Id.{Id}
 use Rattle.nz_base.specs.declared.key.Entry.{Entry}
 use Rattle.nz_log.specs.Places.{place_of}
@@ -14,7 +14,7 @@ use Rattle.nz_msg.specs.declared.envelope.Envelope.{Envelope}
 use Rattle.nz_msg.specs.declared.message.Message.{Message}
 use Rattle.nz_msg.specs.declared.message.Message.TheVariants.{FastReply, SlowReply}
 use Rattle.nz_machine.specs.declared.event.Event.{Event}
-use Rattle.nz_machine.specs.declared.event.Event.TheVariants.{Deliver, Cut, Tick, Alarm, Crash, Restart}
+use Rattle.nz_machine.specs.declared.event.Event.TheVariants.{Deliver}
 use Rattle.nz_machine.specs.declared.event.Parcel.{Parcel}
 use Rattle.nz_machine.specs.declared.event.Record.{Record}
 use Rattle.nz_machine.specs.declared.reply.Reply.{Reply}

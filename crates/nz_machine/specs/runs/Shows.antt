@@ -1,15 +1,14 @@
 -- What a message shows of its sender: it is read off the sender's states before and after the record that sends it.
 use Rattle.std.specs.Prelude.{◌≡◌, ℕ, ◌+◌, ◌-◌, ◌<◌, ◌≤◌, ◌==◌, not, true, false, List, ◌++◌, length, Some}
-use Rattle.std.specs.Prelude.{None, filter, map, take, drop, slice_get, slice_index, if◌then◌else◌}
+use Rattle.std.specs.Prelude.{None, filter, map, slice_get, slice_index, if◌then◌else◌}
 use Rattle.std.specs.Map.{lookup}
 use Rattle.nz_base.specs.Cluster.{replica_count, leader_of}
 use Rattle.nz_base.specs.Key.{id_eq, id_of}
-use Rattle.nz_base.specs.Log.{keys_of}
 use Rattle.nz_base.specs.declared.actor.Actor.{Actor}
 use Rattle.nz_base.specs.declared.actor.Actor.TheVariants.{Replica, Proxy, Client}
 use Rattle.nz_base.specs.declared.key.Key.{Key}
 use Rattle.nz_base.specs.declared.scenario.Request.{Request}
-use Rattle.nz_base.specs.declared.limits.TheConstants.{MAX_KEYS, MARGIN}
+use Rattle.nz_base.specs.declared.limits.TheConstants.{MARGIN}
 use Rattle.nz_cv.specs.Vectors.{merged_vector}
 use Rattle.nz_window.specs.Samples.{bound_of}
 use Rattle.nz_log.specs.Places.{place_of, digest_at}

@@ -1,5 +1,5 @@
 -- What the function of this folder owes, proved.
-use Rattle.std.proofs.Common.{rules, [], ℕ, sym, subst, arith, refl, length-append, ap}
+use Rattle.std.proofs.Common.{rules, [], ℕ, sym, subst}
 use Rattle.nz_story.specs.Courses.{IsWatched}
 use Rattle.nz_story.proofs.Following.{watched_more}
 use Rattle.nz_story.proofs.story.first_replicas.Goals as goal

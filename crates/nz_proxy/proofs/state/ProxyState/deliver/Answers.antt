@@ -1,11 +1,10 @@
 -- What the function of this folder owes, proved.
-use Rattle.std.proofs.Common.{◌≡◌, List, [], ℕ, ap, sym, ◌∙◌, inl, inr}
+use Rattle.std.proofs.Common.{◌≡◌, [], ℕ, ap, sym, ◌∙◌, inl, inr}
 use Rattle.std.specs.Option.{option_copied}
 use Rattle.nz_base.specs.declared.actor.Actor.{Actor}
 use Rattle.nz_base.specs.declared.actor.Actor.TheVariants.{Proxy}
-use Rattle.nz_machine.specs.rules.State.{ProxyData, Out}
-use Rattle.nz_machine.specs.rules.Step.{parcel, envelope_for, accepted_envelope, envelope_step}
-use Rattle.nz_proxy.specs.Models.{ProxyModel, group_with_cluster}
+use Rattle.nz_machine.specs.rules.Step.{envelope_for, accepted_envelope, envelope_step}
+use Rattle.nz_proxy.specs.Models.{group_with_cluster}
 use Rattle.nz_proxy.proofs.Passing.{counts, does_nothing, passed_over}
 use Rattle.nz_proxy.proofs.state.ProxyState.deliver.Goals as goal
 use Rattle.nz_proxy.proofs.state.ProxyState.deliver.Goals.{then-is_down-via-then-is_down, then-is_down-via-else-is_down+then-not-is_from_cluster}

@@ -1,5 +1,5 @@
 -- What the function of this folder owes, proved.
-use Rattle.std.proofs.Common.{◌∙◌, ap, sym}
+use Rattle.std.proofs.Common.{◌∙◌, ap}
 use Rattle.nz_story.specs.Known.{known_of}
 use Rattle.nz_story.proofs.Following.{first_core}
 use Rattle.nz_story.proofs.story.Watched.new.Goals as goal

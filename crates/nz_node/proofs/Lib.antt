@@ -1,0 +1,4 @@
+-- The modules of this crate's proofs.
+pub mod Deliveries
+pub mod Lanes
+pub mod Turns
