@@ -1,5 +1,5 @@
 -- Which commands there are, and the words that call them.
-use Rattle.std.specs.Prelude.{◌≡◌, ℕ, ◌≤◌, ◌==◌, nat_le, Bool, not, ◌&&◌, List, [], ◌∷◌, take, Option, Some, None, if◌then◌else◌, codes}
+use Rattle.std.specs.Prelude.{◌≡◌, ℕ, ◌≤◌, ◌==◌, nat_le, Bool, not, ◌&&◌, List, [], ◌∷◌, take, drop, Option, Some, None, if◌then◌else◌, codes}
 use Rattle.std.specs.Str.{bytes_eq}
 use Rattle.nz_base.specs.Actor.{is_within}
 use Rattle.nz_base.specs.declared.limits.TheConstants.{MAX_REQUESTS, MAX_WORKERS}
