@@ -13,7 +13,7 @@ ghost use Rattle.nz_client.specs.Models.{ClientDoes, IsSendable, AreSendable, Is
 use crate::state::ClientState;
 use nz_base::{Actor, MAX_COMMAND, NoMemory, Request, RequestList};
 use nz_machine::{Core, Event, Outbox, Parcel, Sends, heard};
-use nz_msg::{Envelope, Message, decode};
+use nz_msg::{Envelope, Message};
 use std::alloc::Global;
 use std::marker::Model;
 
@@ -131,10 +131,9 @@ impl ClientState {
             → OnOk result (ClientDoes s self.new sends.old sends.new
             (envelope_step g (actors.Client s.me) s.state (accepted_envelope g.f (actors.Client s.me) p.now))) }
     {
-        let decoded = decode(self.allocator(), &p.frame);
-        match heard(self.actor(), p, &decoded)? {
+        match heard(self.allocator(), self.actor(), p)? {
             None => Ok(()),
-            Some(envelope) => self.handle(envelope, sends),
+            Some(envelope) => self.handle(&envelope, sends),
         }
     }
 

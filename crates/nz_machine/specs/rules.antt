@@ -15,7 +15,6 @@ pub mod Quorums
 pub mod Proxies
 pub mod Clients
 pub mod Step
-pub mod Decoded
 pub mod Does
 pub mod Taking
 pub mod Sends

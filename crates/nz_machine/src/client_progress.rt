@@ -222,12 +222,8 @@ fn answer_of(
 {
     match event {
         Event::Deliver(parcel) => {
-            let parcel = parcel.get();
-            let decoded = decode(alloc, &parcel.frame);
-            match heard(Actor::Client(client), parcel, &decoded)? {
-                Some(_) => Ok(progress.answer_in(decoded.ok())),
-                None => Ok(None),
-            }
+            let envelope = heard(alloc, Actor::Client(client), parcel.get())?;
+            Ok(progress.answer_in(envelope))
         }
         Event::Cut(..) | Event::Tick(_) | Event::Alarm | Event::Crash | Event::Restart(_) => {
             Ok(None)

@@ -1,10 +1,10 @@
 //! The request rule.
 
-ghost use Rattle.std.specs.Prelude.{◌≡◌, ◌≤◌, ◌<◌, ◌++◌, map, length, nat_le, IsTrue, IsFalse, IfOk, OnOk, if◌then◌else◌};
+ghost use Rattle.std.specs.Prelude.{◌≡◌, ◌<◌, ◌++◌, map, length, nat_le, IsTrue, IsFalse, IfOk, OnOk, if◌then◌else◌};
 ghost use Rattle.nz_base.specs.Actor.{HasAddress};
 ghost use Rattle.nz_base.specs.Log.{keys_of, has_id};
 ghost use Rattle.nz_base.specs.declared.actor.Actor.TheVariants as actors;
-ghost use Rattle.nz_base.specs.declared.limits.TheConstants.{MAX_DEADLINE, MAX_PROXY};
+ghost use Rattle.nz_base.specs.declared.limits.TheConstants.{MAX_DEADLINE};
 ghost use Rattle.nz_log.specs.Places.{last_entry};
 ghost use Rattle.nz_msg.specs.Messages.{timed};
 ghost use Rattle.nz_msg.specs.declared.message.Message.TheVariants.{Timed};
@@ -116,29 +116,9 @@ fn reply_at(state: &ReplicaState, id: Id, place: u32, sends: &mut Outbox) -> Res
     }
 }
 
-/// In normal operation the origin is noted, and the request is replied to or goes to a buffer.
+/// What a replica does with a timed message, which it takes from proxies alone. In normal operation the origin is noted,
+/// and the request is replied to or goes to a buffer.
 #[tactic(auto, unfolding(nz_machine::specs::rules::Requests::request_rule))]
-fn request_rule(
-    state: &mut ReplicaState,
-    proxy: u8,
-    body: &TimedBody,
-    sends: &mut Outbox,
-) -> Result<(), NoMemory>
-    requires proxy { proxy ≤ MAX_PROXY }
-    requires fits { timed.fits body.now }
-    ensures { let s = state.old in OnOk result (Does s state.new sends.old sends.new (requests.request_rule s.f s.me s.state proxy body.now)) }
-{
-    if !state.is_normal() {
-        return Ok(());
-    }
-    state.note_origin(proxy, body)?;
-    match state.log().place_of(body.id) {
-        Some(place) => reply_at(state, body.id, place, sends),
-        None => take_new_request(state, body),
-    }
-}
-
-/// What a replica does with a timed message. It takes them from proxies alone.
 pub fn on_timed(
     state: &mut ReplicaState,
     from: Actor,
@@ -149,8 +129,15 @@ pub fn on_timed(
     requires fits { timed.fits body.now }
     ensures { let s = state.old in OnOk result (Does s state.new sends.old sends.new (replica_message s.f s.me s.state from (Timed body.now))) }
 {
-    match from {
-        Actor::Proxy(proxy) => request_rule(state, proxy, body, sends),
-        Actor::Replica(_) | Actor::Client(_) => Ok(()),
+    let Actor::Proxy(proxy) = from else {
+        return Ok(());
+    };
+    if !state.is_normal() {
+        return Ok(());
+    }
+    state.note_origin(proxy, body)?;
+    match state.log().place_of(body.id) {
+        Some(place) => reply_at(state, body.id, place, sends),
+        None => take_new_request(state, body),
     }
 }

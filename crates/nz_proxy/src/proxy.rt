@@ -15,7 +15,7 @@ ghost use Rattle.nz_proxy.specs.Models.{ProxyDoes, IsSameProxy, group_with_clust
 use crate::state::ProxyState;
 use nz_base::{Actor, Cluster, NoMemory};
 use nz_machine::{Core, Event, Outbox, Parcel, Reply, Sends, heard, is_from_cluster};
-use nz_msg::{Envelope, FastReplyBody, Message, SlowReplyBody, decode};
+use nz_msg::{Envelope, FastReplyBody, Message, SlowReplyBody};
 use std::alloc::Global;
 use std::marker::Model;
 
@@ -133,17 +133,13 @@ impl ProxyState {
             OnOk result (ProxyDoes s self.new sends.old sends.new
             (envelope_step (group_with_cluster s.f) (actors.Proxy s.me) s.state (accepted_envelope s.f (actors.Proxy s.me) p.now))) }
     {
-        let decoded = decode(self.allocator(), &p.frame);
-        let Some(envelope) = heard(self.actor(), p, &decoded)? else {
+        let Some(envelope) = heard(self.allocator(), self.actor(), p)? else {
             return Ok(());
         };
-        if self.is_down() || !is_from_cluster(self.cluster(), envelope) {
+        if self.is_down() || !is_from_cluster(self.cluster(), &envelope) {
             return Ok(());
         }
-        match decoded {
-            Ok(envelope) => self.handle(envelope, sends),
-            Err(_) => unreachable!(),
-        }
+        self.handle(envelope, sends)
     }
 
     fn tick(&mut self, clock: u64)

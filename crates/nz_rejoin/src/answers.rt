@@ -1,12 +1,9 @@
 //! The answers of a replica in normal operation to one that rejoins.
 
-ghost use Rattle.std.specs.Prelude.{◌<◌, ◌≤◌, OnOk};
+ghost use Rattle.std.specs.Prelude.{◌<◌, OnOk};
 ghost use Rattle.nz_base.specs.Actor.{HasAddress};
-ghost use Rattle.nz_base.specs.declared.actor.Actor.TheVariants as actors;
-ghost use Rattle.nz_base.specs.declared.limits.TheConstants.{MAX_REPLICA};
 ghost use Rattle.nz_msg.specs.Messages.{vector_ask, rejoin_ask, state_ask};
 ghost use Rattle.nz_msg.specs.declared.message.Message.TheVariants.{VectorAsk, RejoinAsk, StateAsk};
-ghost use Rattle.nz_machine.specs.rules.Rejoining as rejoining;
 ghost use Rattle.nz_machine.specs.rules.Does.{Does, IsFromMember};
 ghost use Rattle.nz_machine.specs.rules.Step.{replica_message};
 
@@ -14,25 +11,9 @@ use nz_base::{Actor, NoMemory};
 use nz_machine::{Outbox, ReplicaState};
 use nz_msg::{RejoinAskBody, StateAskBody, VectorAskBody};
 
-/// A replica in normal operation tells its vector.
+/// What a replica does with a vector-ask, which it takes from replicas alone. It changes nothing: in normal operation it
+/// tells its vector.
 #[tactic(auto, unfolding(nz_machine::specs::rules::Rejoining::vector_ask_rule))]
-fn vector_ask_rule(
-    state: &ReplicaState,
-    sender: u8,
-    body: &VectorAskBody,
-    sends: &mut Outbox,
-) -> Result<(), NoMemory>
-    requires sender { sender ≤ MAX_REPLICA }
-    requires fits { vector_ask.fits body.now }
-    ensures { let s = state.now in OnOk result (Does s s sends.old sends.new (rejoining.vector_ask_rule s.state sender body.now)) }
-{
-    if !state.is_normal() {
-        return Ok(());
-    }
-    state.send_to(sender, &state.vector_tell(body.nonce), sends)
-}
-
-/// What a replica does with a vector-ask. It changes nothing, and takes them from replicas alone.
 pub fn on_vector_ask(
     state: &ReplicaState,
     from: Actor,
@@ -43,31 +24,18 @@ pub fn on_vector_ask(
     requires fits { vector_ask.fits body.now }
     ensures { let s = state.now in OnOk result (Does s s sends.old sends.new (replica_message s.f s.me s.state from (VectorAsk body.now))) }
 {
-    match from {
-        Actor::Replica(sender) => vector_ask_rule(state, sender, body, sends),
-        Actor::Proxy(_) | Actor::Client(_) => Ok(()),
-    }
-}
-
-/// A replica in normal operation merges the vector of who rejoins, and tells its view with its own.
-#[tactic(auto, unfolding(nz_machine::specs::rules::Rejoining::rejoin_ask_rule))]
-fn rejoin_ask_rule(
-    state: &mut ReplicaState,
-    sender: u8,
-    body: &RejoinAskBody,
-    sends: &mut Outbox,
-) -> Result<(), NoMemory>
-    requires from { IsFromMember state.old (actors.Replica sender) body.now.vector }
-    requires fits { rejoin_ask.fits body.now }
-    ensures { let s = state.old in OnOk result (Does s state.new sends.old sends.new (rejoining.rejoin_ask_rule s.me s.state sender body.now)) }
-{
-    if !state.is_normal() || !state.merge_unless_stray(sender, &body.vector) {
+    let Actor::Replica(sender) = from else {
+        return Ok(());
+    };
+    if !state.is_normal() {
         return Ok(());
     }
-    state.send_to(sender, &state.rejoin_tell(body.nonce), sends)
+    state.send_to(sender, &state.vector_tell(body.nonce), sends)
 }
 
-/// What a replica does with a rejoin-ask. It takes them from replicas alone.
+/// What a replica does with a rejoin-ask, which it takes from replicas alone. In normal operation it merges the vector of
+/// who rejoins, and tells its view with its own.
+#[tactic(auto, unfolding(nz_machine::specs::rules::Rejoining::rejoin_ask_rule))]
 pub fn on_rejoin_ask(
     state: &mut ReplicaState,
     from: Actor,
@@ -78,35 +46,18 @@ pub fn on_rejoin_ask(
     requires fits { rejoin_ask.fits body.now }
     ensures { let s = state.old in OnOk result (Does s state.new sends.old sends.new (replica_message s.f s.me s.state from (RejoinAsk body.now))) }
 {
-    match from {
-        Actor::Replica(sender) => rejoin_ask_rule(state, sender, body, sends),
-        Actor::Proxy(_) | Actor::Client(_) => Ok(()),
-    }
-}
-
-/// The leader tells its log, in the view that is asked for or a later one.
-#[tactic(auto, unfolding(nz_machine::specs::rules::Rejoining::state_ask_rule))]
-fn state_ask_rule(
-    state: &mut ReplicaState,
-    sender: u8,
-    body: &StateAskBody,
-    sends: &mut Outbox,
-) -> Result<(), NoMemory>
-    requires from { IsFromMember state.old (actors.Replica sender) body.now.vector }
-    requires fits { state_ask.fits body.now }
-    ensures { let s = state.old in OnOk result (Does s state.new sends.old sends.new (rejoining.state_ask_rule s.f s.me s.state sender body.now)) }
-{
-    if !state.leads_view()
-        || body.view > state.view()
-        || !state.merge_unless_stray(sender, &body.vector)
-    {
+    let Actor::Replica(sender) = from else {
+        return Ok(());
+    };
+    if !state.is_normal() || !state.merge_unless_stray(sender, &body.vector) {
         return Ok(());
     }
-    let tell = state.state_tell(body.nonce)?;
-    state.send_to(sender, &tell, sends)
+    state.send_to(sender, &state.rejoin_tell(body.nonce), sends)
 }
 
-/// What a replica does with a state-ask. It takes them from replicas alone.
+/// What a replica does with a state-ask, which it takes from replicas alone. The leader tells its log, in the view that is
+/// asked for or a later one.
+#[tactic(auto, unfolding(nz_machine::specs::rules::Rejoining::state_ask_rule))]
 pub fn on_state_ask(
     state: &mut ReplicaState,
     from: Actor,
@@ -117,8 +68,15 @@ pub fn on_state_ask(
     requires fits { state_ask.fits body.now }
     ensures { let s = state.old in OnOk result (Does s state.new sends.old sends.new (replica_message s.f s.me s.state from (StateAsk body.now))) }
 {
-    match from {
-        Actor::Replica(sender) => state_ask_rule(state, sender, body, sends),
-        Actor::Proxy(_) | Actor::Client(_) => Ok(()),
+    let Actor::Replica(sender) = from else {
+        return Ok(());
+    };
+    if !state.leads_view()
+        || body.view > state.view()
+        || !state.merge_unless_stray(sender, &body.vector)
+    {
+        return Ok(());
     }
+    let tell = state.state_tell(body.nonce)?;
+    state.send_to(sender, &tell, sends)
 }

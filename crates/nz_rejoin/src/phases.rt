@@ -1,6 +1,6 @@
 //! The three phases of a rejoin: vectors, views, and the log.
 
-ghost use Rattle.std.specs.Prelude.{◌≡◌, ◌≢◌, ◌<◌, ◌≤◌, ◌==◌, ◌&&◌, [], nat_le, length, IsFalse, OnOk};
+ghost use Rattle.std.specs.Prelude.{◌≡◌, ◌<◌, ◌≤◌, ◌==◌, ◌&&◌, [], nat_le, length, IsFalse, OnOk};
 ghost use Rattle.nz_base.specs.Cluster.{leader_of};
 ghost use Rattle.nz_base.specs.declared.actor.Actor.TheVariants as actors;
 ghost use Rattle.nz_base.specs.declared.limits.TheConstants.{MAX_VIEW};
@@ -10,7 +10,7 @@ ghost use Rattle.nz_machine.specs.declared.data.Phase.TheVariants as phases;
 ghost use Rattle.nz_machine.specs.rules.Adopting.{normal_in};
 ghost use Rattle.nz_machine.specs.rules.Rejoining as rejoining;
 ghost use Rattle.nz_machine.specs.rules.Rejoining.{awaits};
-ghost use Rattle.nz_machine.specs.rules.Does.{Does, DoesSilently, IsFromMember};
+ghost use Rattle.nz_machine.specs.rules.Does.{Does, DoesSilently, IsFromMember, IsFromOther};
 ghost use Rattle.nz_machine.specs.rules.Step.{replica_message};
 
 use nz_base::{Actor, EntryList, NoMemory};
@@ -43,28 +43,9 @@ fn after_vectors(
     Ok(())
 }
 
-/// A vector is taken in the first phase, for this restart.
+/// What a replica does with a vector-tell, which it takes from replicas alone. A vector is taken in the first phase, for
+/// this restart.
 #[tactic(auto, unfolding(nz_machine::specs::rules::Rejoining::vector_tell_rule))]
-fn vector_tell_rule(
-    state: &mut ReplicaState,
-    sender: u8,
-    body: &VectorTellBody,
-    sends: &mut Outbox,
-) -> Result<(), NoMemory>
-    requires from { IsFromMember state.old (actors.Replica sender) body.now.vector }
-    requires fits { vector_tell.fits body.now }
-    ensures { let s = state.old in OnOk result (Does s state.new sends.old sends.new (rejoining.vector_tell_rule s.f s.me s.state sender body.now)) }
-{
-    if !state.awaits(Phase::Vectors, body.nonce)
-        || !state.merge_unless_stray(sender, &body.vector)
-    {
-        return Ok(());
-    }
-    let tellers = state.note_teller(sender, &body.vector)?;
-    after_vectors(state, tellers, sends)
-}
-
-/// What a replica does with a vector-tell. It takes them from replicas alone.
 pub fn on_vector_tell(
     state: &mut ReplicaState,
     from: Actor,
@@ -75,10 +56,16 @@ pub fn on_vector_tell(
     requires fits { vector_tell.fits body.now }
     ensures { let s = state.old in OnOk result (Does s state.new sends.old sends.new (replica_message s.f s.me s.state from (VectorTell body.now))) }
 {
-    match from {
-        Actor::Replica(sender) => vector_tell_rule(state, sender, body, sends),
-        Actor::Proxy(_) | Actor::Client(_) => Ok(()),
+    let Actor::Replica(sender) = from else {
+        return Ok(());
+    };
+    if !state.awaits(Phase::Vectors, body.nonce)
+        || !state.merge_unless_stray(sender, &body.vector)
+    {
+        return Ok(());
     }
+    let tellers = state.note_teller(sender, &body.vector)?;
+    after_vectors(state, tellers, sends)
 }
 
 // ---- the second phase: views
@@ -111,26 +98,9 @@ fn after_views(state: &mut ReplicaState, tells: usize, sends: &mut Outbox) -> Re
     ask_log(state, view, sends)
 }
 
-/// A view is taken in the second phase, for this restart.
+/// What a replica does with a rejoin-tell, which it takes from replicas alone. A view is taken in the second phase, for
+/// this restart.
 #[tactic(auto, unfolding(nz_machine::specs::rules::Rejoining::rejoin_tell_rule))]
-fn rejoin_tell_rule(
-    state: &mut ReplicaState,
-    sender: u8,
-    body: &RejoinTellBody,
-    sends: &mut Outbox,
-) -> Result<(), NoMemory>
-    requires from { IsFromMember state.old (actors.Replica sender) body.now.vector }
-    requires fits { rejoin_tell.fits body.now }
-    ensures { let s = state.old in OnOk result (Does s state.new sends.old sends.new (rejoining.rejoin_tell_rule s.f s.me s.state sender body.now)) }
-{
-    if !state.awaits(Phase::Views, body.nonce) || !state.merge_unless_stray(sender, &body.vector) {
-        return Ok(());
-    }
-    let tells = state.note_view(sender, body)?;
-    after_views(state, tells, sends)
-}
-
-/// What a replica does with a rejoin-tell. It takes them from replicas alone.
 pub fn on_rejoin_tell(
     state: &mut ReplicaState,
     from: Actor,
@@ -141,10 +111,14 @@ pub fn on_rejoin_tell(
     requires fits { rejoin_tell.fits body.now }
     ensures { let s = state.old in OnOk result (Does s state.new sends.old sends.new (replica_message s.f s.me s.state from (RejoinTell body.now))) }
 {
-    match from {
-        Actor::Replica(sender) => rejoin_tell_rule(state, sender, body, sends),
-        Actor::Proxy(_) | Actor::Client(_) => Ok(()),
+    let Actor::Replica(sender) = from else {
+        return Ok(());
+    };
+    if !state.awaits(Phase::Views, body.nonce) || !state.merge_unless_stray(sender, &body.vector) {
+        return Ok(());
     }
+    let tells = state.note_view(sender, body)?;
+    after_views(state, tells, sends)
 }
 
 // ---- the third phase: the log
@@ -178,8 +152,7 @@ fn state_tell_rule(
     sender: u8,
     body: &mut StateTellBody,
 ) -> Result<(), NoMemory>
-    requires from { IsFromMember state.old (actors.Replica sender) body.old.vector }
-    requires other { IsFalse (sender == state.old.me) }
+    requires from { IsFromOther state.old (actors.Replica sender) body.old.vector }
     requires fits { state_tell.fits body.old }
     ensures { let s = state.old in OnOk result (DoesSilently s state.new (rejoining.state_tell_rule s.f s.me s.state sender body.old)) }
 {
@@ -189,20 +162,19 @@ fn state_tell_rule(
     start(state, body)
 }
 
-/// What a replica does with a state-tell. It takes them from replicas alone, and sends nothing. A log that is adopted is
-/// taken out of the body.
+/// What a replica does with a state-tell, which it takes from other replicas alone. It sends nothing. A log that is adopted
+/// is taken out of the body.
 pub fn on_state_tell(
     state: &mut ReplicaState,
     from: Actor,
     body: &mut StateTellBody,
 ) -> Result<(), NoMemory>
-    requires from { IsFromMember state.old from body.old.vector }
-    requires other { from ≢ actors.Replica state.old.me }
+    requires from { IsFromOther state.old from body.old.vector }
     requires fits { state_tell.fits body.old }
     ensures { let s = state.old in OnOk result (DoesSilently s state.new (replica_message s.f s.me s.state from (StateTell body.old))) }
 {
-    match from {
-        Actor::Replica(sender) => state_tell_rule(state, sender, body),
-        Actor::Proxy(_) | Actor::Client(_) => Ok(()),
-    }
+    let Actor::Replica(sender) = from else {
+        return Ok(());
+    };
+    state_tell_rule(state, sender, body)
 }

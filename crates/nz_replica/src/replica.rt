@@ -17,7 +17,7 @@ ghost use Rattle.nz_replica.specs.Models.{IsOf};
 use nz_base::{Actor, Cluster, NoMemory};
 use nz_log::HashedLog;
 use nz_machine::{Core, Event, Outbox, Parcel, ReplicaState, Sends, heard, is_from_cluster};
-use nz_msg::{Envelope, Message, decode};
+use nz_msg::{Envelope, Message};
 use nz_normal::{on_timed, tick};
 use nz_rejoin::{
     on_rejoin_ask, on_rejoin_tell, on_state_ask, on_state_tell, on_vector_ask, on_vector_tell,
@@ -176,14 +176,9 @@ fn deliver(state: &mut ReplicaState, p: &Parcel, sends: &mut Outbox) -> Result<(
         → OnOk result (Does s state.new sends.old sends.new
         (envelope_step g (actors.Replica s.me) s.state (accepted_envelope g.f (actors.Replica s.me) p.now))) }
 {
-    let mut decoded = decode(state.allocator(), &p.frame);
-    if heard(state.actor(), p, &decoded)?.is_none() {
-        return Ok(());
-    }
-    match &mut decoded {
-        Ok(envelope) => hear(state, envelope, sends),
-        // Of what cannot be decoded nothing is heard.
-        Err(_) => Ok(()),
+    match heard(state.allocator(), state.actor(), p)? {
+        None => Ok(()),
+        Some(mut envelope) => hear(state, &mut envelope, sends),
     }
 }
 

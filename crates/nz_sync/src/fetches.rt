@@ -4,7 +4,7 @@ ghost use Rattle.std.specs.Prelude.{◌≡◌, ◌<◌, ◌≤◌, ◌++◌, [],
 ghost use Rattle.std.specs.List.{AllByRecursion};
 ghost use Rattle.nz_base.specs.Actor.{HasAddress};
 ghost use Rattle.nz_base.specs.declared.actor.Actor.TheVariants as actors;
-ghost use Rattle.nz_base.specs.declared.limits.TheConstants.{MAX_KEYS, MAX_REPLICA};
+ghost use Rattle.nz_base.specs.declared.limits.TheConstants.{MAX_KEYS};
 ghost use Rattle.nz_msg.specs.Fields as fields;
 ghost use Rattle.nz_msg.specs.Messages.{fetch, fetch_reply};
 ghost use Rattle.nz_msg.specs.declared.message.Message.TheVariants.{Fetch, FetchReply};
@@ -47,30 +47,9 @@ fn asked_entries(state: &ReplicaState, ids: &[Id]) -> Result<EntryList, NoMemory
     Ok(entries)
 }
 
-/// The leader replies with the asked entries that its log has.
+/// What a replica does with a fetch, which it takes from replicas alone. It changes nothing: the leader replies with the
+/// asked entries that its log has.
 #[tactic(auto, unfolding(nz_machine::specs::rules::LogMods::fetch_rule))]
-fn fetch_rule(
-    state: &ReplicaState,
-    sender: u8,
-    body: &FetchBody,
-    sends: &mut Outbox,
-) -> Result<(), NoMemory>
-    requires sender { sender ≤ MAX_REPLICA }
-    requires fits { fetch.fits body.now }
-    ensures { let s = state.now in OnOk result (Does s s sends.old sends.new (log_mods.fetch_rule s.f s.me s.state sender body.now)) }
-{
-    if !state.leads_view() || body.view != state.view() {
-        return Ok(());
-    }
-    let message = Message::FetchReply(FetchReplyBody {
-        view: state.view(),
-        entries: asked_entries(state, body.ids.as_slice())?,
-    });
-    let to = Actor::Replica(sender);
-    sends.send(state.actor(), to, &message)
-}
-
-/// What a replica does with a fetch. It changes nothing, and takes them from replicas alone.
 pub fn on_fetch(
     state: &ReplicaState,
     from: Actor,
@@ -81,10 +60,18 @@ pub fn on_fetch(
     requires fits { fetch.fits body.now }
     ensures { let s = state.now in OnOk result (Does s s sends.old sends.new (replica_message s.f s.me s.state from (Fetch body.now))) }
 {
-    match from {
-        Actor::Replica(sender) => fetch_rule(state, sender, body, sends),
-        Actor::Proxy(_) | Actor::Client(_) => Ok(()),
+    let Actor::Replica(sender) = from else {
+        return Ok(());
+    };
+    if !state.leads_view() || body.view != state.view() {
+        return Ok(());
     }
+    let message = Message::FetchReply(FetchReplyBody {
+        view: state.view(),
+        entries: asked_entries(state, body.ids.as_slice())?,
+    });
+    let to = Actor::Replica(sender);
+    sends.send(state.actor(), to, &message)
 }
 
 /// Keeps a fetched entry where its id is held nowhere and there is room.
@@ -110,23 +97,9 @@ fn keep_late_entries(state: &mut ReplicaState, entries: &[Entry]) -> Result<(), 
     Ok(())
 }
 
-/// A follower keeps in late what its leader sends.
+/// What a replica does with a fetch reply, which it takes from replicas alone. It sends nothing: a follower keeps in late
+/// what its leader sends.
 #[tactic(auto, unfolding(nz_machine::specs::rules::LogMods::fetch_reply_rule))]
-fn fetch_reply_rule(
-    state: &mut ReplicaState,
-    sender: u8,
-    body: &FetchReplyBody,
-) -> Result<(), NoMemory>
-    requires { fetch_reply.fits body.now }
-    ensures { let s = state.old in OnOk result (DoesSilently s state.new (log_mods.fetch_reply_rule s.f s.me s.state sender body.now)) }
-{
-    if !state.hears_leader(body.view, sender) {
-        return Ok(());
-    }
-    keep_late_entries(state, body.entries.as_slice())
-}
-
-/// What a replica does with a fetch reply. It takes them from replicas alone, and sends nothing.
 pub fn on_fetch_reply(
     state: &mut ReplicaState,
     from: Actor,
@@ -135,8 +108,11 @@ pub fn on_fetch_reply(
     requires { fetch_reply.fits body.now }
     ensures { let s = state.old in OnOk result (DoesSilently s state.new (replica_message s.f s.me s.state from (FetchReply body.now))) }
 {
-    match from {
-        Actor::Replica(sender) => fetch_reply_rule(state, sender, body),
-        Actor::Proxy(_) | Actor::Client(_) => Ok(()),
+    let Actor::Replica(sender) = from else {
+        return Ok(());
+    };
+    if !state.hears_leader(body.view, sender) {
+        return Ok(());
     }
+    keep_late_entries(state, body.entries.as_slice())
 }

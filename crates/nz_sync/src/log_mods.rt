@@ -155,28 +155,9 @@ fn follow_unless_stray(
     take_log_mod(state, sender, body, sends)
 }
 
-/// One of a later view is a reason to enter it. One of the own view is taken.
+/// What a replica does with a log modification, which it takes from replicas alone. One of a later view is a reason to
+/// enter it. One of the own view is taken.
 #[tactic(auto, unfolding(nz_machine::specs::rules::LogMods::log_mod_rule))]
-fn log_mod_rule(
-    state: &mut ReplicaState,
-    sender: u8,
-    body: &LogModBody,
-    sends: &mut Outbox,
-) -> Result<(), NoMemory>
-    requires from { IsFromMember state.old (actors.Replica sender) body.now.vector }
-    requires fits { log_mod.fits body.now }
-    ensures { let s = state.old in OnOk result (Does s state.new sends.old sends.new (log_mods.log_mod_rule s.f s.me s.state sender body.now)) }
-{
-    if hears_later_leader(state, body.view, sender) {
-        return enter_unless_stray(state, sender, body, sends);
-    }
-    if state.hears_leader(body.view, sender) {
-        return follow_unless_stray(state, sender, body, sends);
-    }
-    Ok(())
-}
-
-/// What a replica does with a log modification. It takes them from replicas alone.
 pub fn on_log_mod(
     state: &mut ReplicaState,
     from: Actor,
@@ -187,8 +168,14 @@ pub fn on_log_mod(
     requires fits { log_mod.fits body.now }
     ensures { let s = state.old in OnOk result (Does s state.new sends.old sends.new (replica_message s.f s.me s.state from (LogMod body.now))) }
 {
-    match from {
-        Actor::Replica(sender) => log_mod_rule(state, sender, body, sends),
-        Actor::Proxy(_) | Actor::Client(_) => Ok(()),
+    let Actor::Replica(sender) = from else {
+        return Ok(());
+    };
+    if hears_later_leader(state, body.view, sender) {
+        return enter_unless_stray(state, sender, body, sends);
     }
+    if state.hears_leader(body.view, sender) {
+        return follow_unless_stray(state, sender, body, sends);
+    }
+    Ok(())
 }

@@ -25,23 +25,9 @@ pub fn enter_later(state: &mut ReplicaState, view: u64, sends: &mut Outbox) -> R
     state.enter_view(view, sends)
 }
 
-/// A replica that is up enters the view that is asked for, where it is later.
+/// What a replica does with a view-ask, which it takes from replicas alone. If it is up, it enters the view that is asked
+/// for, where it is later.
 #[tactic(auto, unfolding(nz_machine::specs::rules::Views::view_ask_rule))]
-fn view_ask_rule(
-    state: &mut ReplicaState,
-    body: &ViewAskBody,
-    sends: &mut Outbox,
-) -> Result<(), NoMemory>
-    requires { view_ask.fits body.now }
-    ensures { let s = state.old in OnOk result (Does s state.new sends.old sends.new (views.view_ask_rule s.f s.me s.state body.now)) }
-{
-    if !state.is_up() {
-        return Ok(());
-    }
-    enter_later(state, body.view, sends)
-}
-
-/// What a replica does with a view-ask. It takes them from replicas alone.
 pub fn on_view_ask(
     state: &mut ReplicaState,
     from: Actor,
@@ -51,10 +37,13 @@ pub fn on_view_ask(
     requires { view_ask.fits body.now }
     ensures { let s = state.old in OnOk result (Does s state.new sends.old sends.new (replica_message s.f s.me s.state from (ViewAsk body.now))) }
 {
-    match from {
-        Actor::Replica(_) => view_ask_rule(state, body, sends),
-        Actor::Proxy(_) | Actor::Client(_) => Ok(()),
+    let Actor::Replica(_) = from else {
+        return Ok(());
+    };
+    if !state.is_up() {
+        return Ok(());
     }
+    enter_later(state, body.view, sends)
 }
 
 /// The next view is entered, where there is one.

@@ -1,13 +1,13 @@
 //! How a replica starts a view that another one leads.
 
-ghost use Rattle.std.specs.Prelude.{◌≡◌, ◌≢◌, ◌==◌, [], IsFalse, OnOk};
+ghost use Rattle.std.specs.Prelude.{◌≡◌, ◌==◌, [], IsFalse, OnOk};
 ghost use Rattle.nz_base.specs.Cluster.{leader_of};
 ghost use Rattle.nz_base.specs.declared.actor.Actor.TheVariants as actors;
 ghost use Rattle.nz_msg.specs.Messages.{start_view};
 ghost use Rattle.nz_msg.specs.declared.message.Message.TheVariants.{StartView};
 ghost use Rattle.nz_machine.specs.rules.Adopting as adopting;
 ghost use Rattle.nz_machine.specs.rules.Adopting.{after_start};
-ghost use Rattle.nz_machine.specs.rules.Does.{DoesSilently, IsFromMember};
+ghost use Rattle.nz_machine.specs.rules.Does.{DoesSilently, IsFromOther};
 ghost use Rattle.nz_machine.specs.rules.Step.{replica_message};
 
 use nz_base::{Actor, EntryList, NoMemory};
@@ -40,8 +40,7 @@ fn start_view_rule(
     sender: u8,
     body: &mut StartViewBody,
 ) -> Result<(), NoMemory>
-    requires from { IsFromMember state.old (actors.Replica sender) body.old.vector }
-    requires other { IsFalse (sender == state.old.me) }
+    requires from { IsFromOther state.old (actors.Replica sender) body.old.vector }
     requires fits { start_view.fits body.old }
     ensures { let s = state.old in OnOk result (DoesSilently s state.new (adopting.start_view_rule s.f s.me s.state sender body.old)) }
 {
@@ -54,20 +53,19 @@ fn start_view_rule(
     start(state, body)
 }
 
-/// What a replica does with a start-view. It takes them from other replicas alone, and sends nothing. A log that is
-/// adopted is taken out of the body.
+/// What a replica does with a start-view, which it takes from other replicas alone. It sends nothing. A log that is adopted
+/// is taken out of the body.
 pub fn on_start_view(
     state: &mut ReplicaState,
     from: Actor,
     body: &mut StartViewBody,
 ) -> Result<(), NoMemory>
-    requires from { IsFromMember state.old from body.old.vector }
-    requires other { from ≢ actors.Replica state.old.me }
+    requires from { IsFromOther state.old from body.old.vector }
     requires fits { start_view.fits body.old }
     ensures { let s = state.old in OnOk result (DoesSilently s state.new (replica_message s.f s.me s.state from (StartView body.old))) }
 {
-    match from {
-        Actor::Replica(sender) => start_view_rule(state, sender, body),
-        Actor::Proxy(_) | Actor::Client(_) => Ok(()),
-    }
+    let Actor::Replica(sender) = from else {
+        return Ok(());
+    };
+    start_view_rule(state, sender, body)
 }

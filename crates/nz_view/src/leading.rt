@@ -1,6 +1,6 @@
 //! How the leader of a view collects view-changes, and begins the view.
 
-ghost use Rattle.std.specs.Prelude.{◌≡◌, ◌≢◌, ◌≤◌, ◌<◌, ◌==◌, IsTrue, IsFalse, OnOk};
+ghost use Rattle.std.specs.Prelude.{◌≡◌, ◌≤◌, ◌<◌, IsTrue, OnOk};
 ghost use Rattle.nz_base.specs.Cluster.{leader_of};
 ghost use Rattle.nz_base.specs.declared.actor.Actor.TheVariants as actors;
 ghost use Rattle.nz_base.specs.declared.limits.TheConstants.{MAX_REPLICA};
@@ -9,7 +9,7 @@ ghost use Rattle.nz_msg.specs.declared.message.Message.TheVariants.{ViewChange};
 ghost use Rattle.nz_machine.specs.rules.Replicas.{is_changing, is_up, leads, ◌and_then◌};
 ghost use Rattle.nz_machine.specs.rules.Views as views;
 ghost use Rattle.nz_machine.specs.rules.Begins as begins;
-ghost use Rattle.nz_machine.specs.rules.Does.{Does, IsFromMember};
+ghost use Rattle.nz_machine.specs.rules.Does.{Does, IsFromOther};
 ghost use Rattle.nz_machine.specs.rules.Step.{replica_message};
 
 use super::entering::enter_later;
@@ -38,8 +38,7 @@ fn collect(
     body: &mut ViewChangeBody,
     sends: &mut Outbox,
 ) -> Result<(), NoMemory>
-    requires from { IsFromMember state.old (actors.Replica sender) body.old.vector }
-    requires other { IsFalse (sender == state.old.me) }
+    requires from { IsFromOther state.old (actors.Replica sender) body.old.vector }
     requires fits { view_change.fits body.old }
     requires changing { IsTrue (is_changing state.old.state.status) }
     requires leads { IsTrue (leads state.old.f state.old.me state.old.state) }
@@ -58,8 +57,7 @@ fn hear_report(
     body: &mut ViewChangeBody,
     sends: &mut Outbox,
 ) -> Result<(), NoMemory>
-    requires from { IsFromMember state.old (actors.Replica sender) body.old.vector }
-    requires other { IsFalse (sender == state.old.me) }
+    requires from { IsFromOther state.old (actors.Replica sender) body.old.vector }
     requires address { sender ≤ MAX_REPLICA }
     requires fits { view_change.fits body.old }
     requires leads { IsTrue (leads state.old.f state.old.me state.old.state) }
@@ -79,8 +77,7 @@ fn enter_and_hear_report(
     body: &mut ViewChangeBody,
     sends: &mut Outbox,
 ) -> Result<(), NoMemory>
-    requires from { IsFromMember state.old (actors.Replica sender) body.old.vector }
-    requires other { IsFalse (sender == state.old.me) }
+    requires from { IsFromOther state.old (actors.Replica sender) body.old.vector }
     requires address { sender ≤ MAX_REPLICA }
     requires fits { view_change.fits body.old }
     requires up { IsTrue (is_up state.old.state.status) }
@@ -101,41 +98,25 @@ fn may_lead(state: &ReplicaState, view: u64) -> bool
     state.is_up() && state.would_lead(view) && state.view() <= view
 }
 
-/// The leader of the report's view takes the report, unless the leader has entered a later view.
+/// What a replica does with a view-change, which it takes from other replicas alone. The leader of the report's view takes
+/// it, unless the leader has entered a later view. The log of a report that is collected is taken out of the body.
 #[tactic(auto, unfolding(nz_machine::specs::rules::Begins::view_change_rule))]
-fn view_change_rule(
-    state: &mut ReplicaState,
-    sender: u8,
-    body: &mut ViewChangeBody,
-    sends: &mut Outbox,
-) -> Result<(), NoMemory>
-    requires from { IsFromMember state.old (actors.Replica sender) body.old.vector }
-    requires other { IsFalse (sender == state.old.me) }
-    requires fits { view_change.fits body.old }
-    ensures { let s = state.old in OnOk result (Does s state.new sends.old sends.new (begins.view_change_rule s.f s.me s.state sender body.old)) }
-{
-    if !may_lead(state, body.view) || !state.merge_unless_stray(sender, &body.vector) {
-        return Ok(());
-    }
-    state.drop_strays();
-    enter_and_hear_report(state, sender, body, sends)
-}
-
-/// What a replica does with a view-change. It takes them from other replicas alone. The log of a report that is collected
-/// is taken out of the body.
 pub fn on_view_change(
     state: &mut ReplicaState,
     from: Actor,
     body: &mut ViewChangeBody,
     sends: &mut Outbox,
 ) -> Result<(), NoMemory>
-    requires from { IsFromMember state.old from body.old.vector }
-    requires other { from ≢ actors.Replica state.old.me }
+    requires from { IsFromOther state.old from body.old.vector }
     requires fits { view_change.fits body.old }
     ensures { let s = state.old in OnOk result (Does s state.new sends.old sends.new (replica_message s.f s.me s.state from (ViewChange body.old))) }
 {
-    match from {
-        Actor::Replica(sender) => view_change_rule(state, sender, body, sends),
-        Actor::Proxy(_) | Actor::Client(_) => Ok(()),
+    let Actor::Replica(sender) = from else {
+        return Ok(());
+    };
+    if !may_lead(state, body.view) || !state.merge_unless_stray(sender, &body.vector) {
+        return Ok(());
     }
+    state.drop_strays();
+    enter_and_hear_report(state, sender, body, sends)
 }

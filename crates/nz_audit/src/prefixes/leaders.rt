@@ -15,7 +15,7 @@ use crate::accepted::answers::{Source, Traced};
 use nz_base::NoMemory;
 use nz_log::HashedLog;
 use nz_machine::{Journal, Parcel, SharedParcel, heard};
-use nz_msg::{Message, decode};
+use nz_msg::Message;
 use nz_replica::Replica;
 use std::alloc::Global;
 
@@ -33,8 +33,7 @@ fn view_in(message: &Message) -> Option<u64>
 fn view_of(alloc: Global, parcel: &Parcel) -> Result<Option<u64>, NoMemory>
     ensures { IfOk result (λ view. view ≡ view_brought parcel.now) }
 {
-    let decoded = decode(alloc, &parcel.frame);
-    match heard(parcel.to, parcel, &decoded)? {
+    match heard(alloc, parcel.to, parcel)? {
         Some(envelope) => Ok(view_in(&envelope.message)),
         None => Ok(None),
     }

@@ -19,7 +19,7 @@ use crate::sources::sendings::{Delivery, Sendings};
 use indexmap::IndexMap;
 use nz_base::{Actor, Cluster, Id, NoMemory};
 use nz_machine::{Event, Parcel, Reply, heard, is_from_cluster};
-use nz_msg::{Envelope, Message, decode};
+use nz_msg::{Envelope, Message};
 use std::alloc::Global;
 
 /// What a proxy knows.
@@ -185,11 +185,8 @@ impl ProxyNotes {
             ≡ after_envelope cluster (option_flatten (kept_of delivery.now.sendings.now.kept.entries delivery.now.parcel.now)) delivery.now.is_silent
             self.old.is_down x (accepted_envelope cluster (actors.Proxy me) delivery.now.parcel.now) (get id_eq self.old.known x)) }
     {
-        let decoded = decode(alloc, &delivery.parcel.frame);
-        match heard(Actor::Proxy(me), delivery.parcel, &decoded)? {
-            None => Ok(()),
-            Some(_) => self.hear_envelope(alloc, cluster, decoded.ok(), delivery),
-        }
+        let envelope = heard(alloc, Actor::Proxy(me), delivery.parcel)?;
+        self.hear_envelope(alloc, cluster, envelope, delivery)
     }
 
     /// Hears the parcel, unless it is a reply to a request that is not open.

@@ -14,7 +14,7 @@ ghost use Rattle.nz_audit.specs.declared.accepted.answers.Source.{Source as Sour
 use crate::sources::fields::{named_id, named_num, shows_answer};
 use nz_base::{Actor, Id, NoMemory};
 use nz_machine::{Event, Parcel, heard};
-use nz_msg::{Envelope, Message, decode};
+use nz_msg::{Envelope, Message};
 use std::alloc::Global;
 use std::collections::HashSet;
 
@@ -67,9 +67,8 @@ fn shown_id(parcel: &Parcel) -> Option<Id>
 fn decoded_id(alloc: Global, parcel: &Parcel) -> Result<Option<Id>, NoMemory>
     ensures { IfOk result (λ id. id ≡ sources.about parcel.now) }
 {
-    let decoded = decode(alloc, &parcel.frame);
-    match heard(parcel.to, parcel, &decoded)? {
-        Some(envelope) => Ok(about_in(envelope)),
+    match heard(alloc, parcel.to, parcel)? {
+        Some(envelope) => Ok(about_in(&envelope)),
         None => Ok(None),
     }
 }

@@ -1,5 +1,5 @@
 -- What a rule may count on where a message comes, and what it does to a replica, and to the messages that wait to be sent.
-use Rattle.std.specs.Prelude.{◌≡◌, ℕ, List, [], ◌++◌, length, map, IsTrue}
+use Rattle.std.specs.Prelude.{◌≡◌, ◌≢◌, ℕ, List, [], ◌++◌, length, map, IsTrue}
 use Rattle.nz_base.specs.Cluster.{replica_count}
 use Rattle.nz_base.specs.declared.actor.Actor.{Actor}
 use Rattle.nz_base.specs.declared.actor.Actor.TheVariants.{Replica}
@@ -11,7 +11,13 @@ use Rattle.nz_machine.specs.rules.Step.{parcel, is_in_cluster}
 -- A message with this crash vector, of this actor, fits the cluster: a replica that sends is a member, and the vector has
 -- a counter for each member.
 pub record IsFromMember (s : ReplicaModel) (from : Actor) (vector : List ℕ) : Type 0 where
-  pub sender : IsTrue (is_in_cluster s.f from)
+  pub member : IsTrue (is_in_cluster s.f from)
+  pub size : length vector ≡ replica_count s.f
+
+-- The same of a message that the replica did not send itself.
+pub record IsFromOther (s : ReplicaModel) (from : Actor) (vector : List ℕ) : Type 0 where
+  pub member : IsTrue (is_in_cluster s.f from)
+  pub other : from ≢ Replica s.me
   pub size : length vector ≡ replica_count s.f
 
 -- The state is the rule's, and its messages are appended to the earlier ones.

@@ -1,10 +1,10 @@
 //! What the leader of a view does to its state when it collects reports, and begins the view.
 
-ghost use Rattle.std.specs.Prelude.{◌≡◌, ◌<◌, ◌==◌, not, nat_lt, length, IsFalse, IfOk, OnOk};
+ghost use Rattle.std.specs.Prelude.{◌≡◌, ◌<◌, not, nat_lt, length, IfOk, OnOk};
 ghost use Rattle.nz_base.specs.declared.actor.Actor.TheVariants.{Replica};
 ghost use Rattle.nz_merge.specs.Merged.{AreFit, merged};
 ghost use Rattle.nz_msg.specs.Messages.{view_change};
-ghost use Rattle.nz_machine.specs.rules.Does.{IsFromMember};
+ghost use Rattle.nz_machine.specs.rules.Does.{IsFromOther};
 ghost use Rattle.nz_machine.specs.rules.Facts.{IsCarried};
 ghost use Rattle.nz_machine.specs.rules.Begins as begins;
 ghost use Rattle.nz_machine.specs.rules.Begins.{with_report, without_strays, changes_of, after_begin};
@@ -31,8 +31,7 @@ impl ReplicaState {
     /// Collects the report in place of an earlier one of its sender. Its log is taken out of the body. Gives how many
     /// reports there are now.
     pub fn keep_report(&mut self, sender: u8, body: &mut ViewChangeBody) -> Result<usize, NoMemory>
-        requires from { IsFromMember self.old (Replica sender) body.old.vector }
-        requires other { IsFalse (sender == self.old.me) }
+        requires from { IsFromOther self.old (Replica sender) body.old.vector }
         requires fits { view_change.fits body.old }
         ensures state { OnOk result (self.new ≡ record self.old { state = with_report self.old.state sender body.old }) }
         ensures count { IfOk result (λ count. count ≡ length self.new.state.changes) }

@@ -1,6 +1,7 @@
 -- What the function of this folder owes, proved.
 use Rattle.std.proofs.Common.{◌≡◌, ◌<◌, ◌==◌, not, IsTrue, IsFalse, List, [], ◌∷◌, ◌++◌, length, eq-eqb, arith, sym, ap, subst, ◌∙◌}
 use Rattle.std.specs.List.{filter}
+use Rattle.std.proofs.lemmas.Bool.{ne_eqb}
 use Rattle.std.proofs.lemmas.Bool.Decides.{nat_tests}
 use Rattle.nz_base.specs.Cluster.{replica_count}
 use Rattle.nz_base.specs.declared.actor.Actor.TheVariants.{Replica}
@@ -22,10 +23,11 @@ invariant_of-self-2 c =
     let sender = c.args.sender in
     let long = subst (λ (v : ReplicaModel). length b.vector ≡ replica_count v.f) (sym c.self.view_is) c.requires.from.size in
     let counters = vector_counts _ b.vector c.requires.fits.1.1.0 (eq-eqb (length b.vector) _ long) in
-    let from = subst (λ (v : ReplicaModel). IsTrue (is_in_cluster v.f (Replica sender))) (sym c.self.view_is) c.requires.from.sender in
+    let from = subst (λ (v : ReplicaModel). IsTrue (is_in_cluster v.f (Replica sender))) (sym c.self.view_is) c.requires.from.member in
     let member : sender < replica_count c.self.inside.parts.cluster = grind (arith, nat_tests, from) in
+    let other : IsFalse (sender == c.args.self.now.me) = ne_eqb sender c.args.self.now.me (λ e. c.requires.from.other (ap Replica e)) in
     let fit = report_fits c.self.inside.parts.cluster c.self.inside.parts.me sender b
-    member (subst (λ (v : ReplicaModel). IsFalse (sender == v.me)) (sym c.self.view_is) c.requires.other) c.requires.fits counters in
+    member (subst (λ (v : ReplicaModel). IsFalse (sender == v.me)) (sym c.self.view_is) other) c.requires.fits counters in
     kept_collect c.self.inside.parts.cluster c.self.inside.parts.me s c.self.inside.parts.store sender b c.replace_report.new.changes.items c.self.invariant fit
     (c.in_ok-replace_report.ensures.ok
     ∙ ap (λ (es : List Entry). filter (λ (r : Reported). not (r.change.sender == sender)) s.changes

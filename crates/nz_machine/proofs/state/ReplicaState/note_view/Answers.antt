@@ -18,7 +18,7 @@ invariant_of-self c =
     let told : ToldView = record { sender = c.args.sender; view = b.view; vector = b.vector } in
     let known = c.self.inside.parts.vector in
     let long = subst (λ (v : ReplicaModel). length b.vector ≡ replica_count v.f) (sym c.self.view_is) c.requires.from.size in
-    let from = subst (λ (v : ReplicaModel). IsTrue (is_in_cluster v.f (Replica c.args.sender))) (sym c.self.view_is) c.requires.from.sender in
+    let from = subst (λ (v : ReplicaModel). IsTrue (is_in_cluster v.f (Replica c.args.sender))) (sym c.self.view_is) c.requires.from.member in
     let member : c.args.sender < replica_count c.self.inside.parts.cluster = grind (arith, nat_tests, from) in
     let is =
     c.in_ok-self-inside.ensures ∙ ap

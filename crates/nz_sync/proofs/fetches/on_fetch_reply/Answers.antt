@@ -4,7 +4,7 @@ use Rattle.std.specs.List.{AllByRecursion}
 use Rattle.nz_base.specs.declared.key.Entry.{Entry}
 use Rattle.nz_machine.specs.rules.Facts.{FitsEntry}
 use Rattle.nz_machine.proofs.facts.SentFields.{entries_of_fit}
-use Rattle.nz_sync.proofs.fetches.fetch_reply_rule.Goals as goal
+use Rattle.nz_sync.proofs.fetches.on_fetch_reply.Goals as goal
 
 pub keep_late_entries-requires : goal.keep_late_entries-requires
 keep_late_entries-requires c =
