@@ -37,7 +37,7 @@ peek|peek r1|peek r1 a b|peek r9 a|peek r10 a|peek r01 a|peek r a|peek R1 a|peek
 peek r1 kkkkkkkkkkkkkkkkkkkkkkkkkkkkkkkkk|peek r1 a\tb|peek r1 ä|peek --workers 3|peek --workers=3 a|peek r1 a --workers 2|peeks r1 a
 """.replace("\n", "|").split("|")[1:-1]
 
-# The words that the program has. A reference may have more, and its `help` tells of them too.
+# The words that the program has. A reference may have more, and its `help` has them too.
 WORDS = "run trace story locks peek pace gen scenario check help".split()
 
 HEAD = "nezha 1\nf 1\nproxies 1\nclients 1\n"
@@ -371,7 +371,7 @@ def is_short(output):
     return output[-1:] in (b"", b"\n") and output.count(b"\n") <= SHORT
 
 
-def told(what, status, output):
+def shown(what, status, output):
     head = f"{what}: status {status}\n".encode()
     if is_short(output):
         return head + output
@@ -393,7 +393,7 @@ class Printer:
         return ended.returncode, ended.stdout
 
     def call(self, name, text, words):
-        yield told(f"{name}, {' '.join(words)}", *self.ended(words, text))
+        yield shown(f"{name}, {' '.join(words)}", *self.ended(words, text))
 
     def lines(self, name, text, words):
         start = " ".join(words).encode()
@@ -404,22 +404,22 @@ class Printer:
 
     def prefixes(self, name, text, words):
         for kept in range(len(text)):
-            yield told(f"{name}, the first {kept} bytes", *self.ended(words, text[:kept]))
+            yield shown(f"{name}, the first {kept} bytes", *self.ended(words, text[:kept]))
 
     def reads(self, name, text, words):
         for given in range(len(text) + 1):
-            yield told(f"{name}, a fault after {given} bytes are read", 3, b"")
+            yield shown(f"{name}, a fault after {given} bytes are read", 3, b"")
 
     def writes(self, name, text, words):
         whole, output = self.ended(words, text)
         for calls in range(len(output) + 2):
             status = whole or 4 if calls <= len(output) else whole
-            yield told(f"{name}, a fault after {calls} calls of the sink", status, output[:calls])
+            yield shown(f"{name}, a fault after {calls} calls of the sink", status, output[:calls])
 
     def rooms(self, name, text, words):
         whole, output = self.ended(words, text)
         for room in range(len(output)):
-            yield told(f"{name}, a room of {room} bytes", whole or 4, output[:room])
+            yield shown(f"{name}, a room of {room} bytes", whole or 4, output[:room])
 
     def shared(self, name, text, words):
         batches = ACTORS[name] * SHARED

@@ -150,8 +150,8 @@ def tried(growths, name, given):
         if way is None:
             wrong += 1
             print(f"  {name}, growth {number}: status {status}, {len(output)} bytes")
-    told = ", ".join(f"{number} ended with {way}" for way, number in ways.items() if way)
-    print(f"{name}: {len(numbers)} of {count} growths; {told}")
+    endings = ", ".join(f"{number} ended with {way}" for way, number in ways.items() if way)
+    print(f"{name}: {len(numbers)} of {count} growths; {endings}")
     if given.workers > 1 and WHOLE not in ways:
         wrong += 1
         print("  none of the runs was played anew")

@@ -4,7 +4,7 @@
     bench/memory.py PROGRAM
 
 plays 100 requests in 20,000 ticks by one worker, with 6 MiB of memory for data. The commands that read no record of a
-finished tick have to end with status 0. `trace` shows all records, and has to end with status 6: so the limit would tell.
+finished tick have to end with status 0. `trace` shows all records, and has to end with status 6: so the limit would be seen.
 The status is 0 where each ended so.
 """
 import os

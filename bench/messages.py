@@ -43,16 +43,16 @@ def timed(sent, place, text=GET):
 
 
 def fast_reply(ident, summed, delay, answer=None, counters=(0, 0, 0), view=0):
-    told = b"\0" if answer is None else b"\1" + answer
-    return 3, number(8, view) + key((0, *ident))[8:] + summed + vector(counters) + number(4, delay) + told
+    given = b"\0" if answer is None else b"\1" + answer
+    return 3, number(8, view) + key((0, *ident))[8:] + summed + vector(counters) + number(4, delay) + given
 
 
 def slow_reply(ident, delay, view=0):
     return 4, number(8, view) + key((0, *ident))[8:] + number(4, delay)
 
 
-def answer(num, told, path):
-    return 5, number(4, num) + told + number(1, path)
+def answer(num, given, path):
+    return 5, number(4, num) + given + number(1, path)
 
 
 def log_mod(start, commit, keys, counters=(0, 0, 0), view=0):

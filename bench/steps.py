@@ -69,14 +69,14 @@ class Requests:
         text = GET if client else PUT
         happens(self.who, heard(PROXY, self.me, timed(sent, (deadline, client, num), text)), sends)
 
-    def reply(self, places, delay, told=None):
+    def reply(self, places, delay, given=None):
         """The fast reply to the last of these places of the log."""
-        return self.me, PROXY, fast_reply(places[-1][1:], digest(places), delay, told)
+        return self.me, PROXY, fast_reply(places[-1][1:], digest(places), delay, given)
 
     def tick(self, clock, log=(), replies=()):
-        """The leader tells the others its log."""
-        told = others(self.me, 3, log_mod(0, 0, log)) if self.me == 0 else []
-        happens(self.who, f"tick {clock}", [*replies, *told])
+        """The leader sends the others its log."""
+        to_others = others(self.me, 3, log_mod(0, 0, log)) if self.me == 0 else []
+        happens(self.who, f"tick {clock}", [*replies, *to_others])
 
     def ends(self, log, early, late):
         shown(self.me, "normal", log, synced=0 if self.me else len(log), early=early, late=late)
@@ -543,7 +543,7 @@ def asks(num, sends):
     happens("proxy", heard(ASKER, PROXY, request(num)), sends)
 
 
-def told(num, path):
+def answers(num, path):
     return [(PROXY, ASKER, answer(num, DONE, path))]
 
 
@@ -566,8 +566,8 @@ def proxy():
     replies_fast(1, 1, 200)
     replies_fast(0, 1, 100)
     replies_fast(1, 1, 200)
-    replies_fast(2, 1, 300, told(1, 1))
-    asks(1, told(1, 1))
+    replies_fast(2, 1, 300, answers(1, 1))
+    asks(1, answers(1, 1))
     asks(2, stamped(1, 1000, 1800, 2))
     replies_slow(2, 1, 700)
     asks(2, stamped(1, 1000, 2200, 2))
@@ -582,9 +582,9 @@ def proxy():
     happens("proxy", "alarm")
     asks(2, stamped(1, 1000, 2400, 2))
     replies_fast(0, 2, 100)
-    replies_slow(1, 2, 200, told(2, 2))
+    replies_slow(1, 2, 200, answers(2, 2))
     happens("proxy", "restart 7")
-    asks(2, told(2, 2))
+    asks(2, answers(2, 2))
     happens("proxy", "crash")
     asks(2, [])
     happens("proxy", "tick 3000")
@@ -635,7 +635,7 @@ def quorums():
         senders = [*range(*equal), *range(*apart), *range(*slowly)]
         for number_of, (sender, message) in enumerate(zip(senders, replies)):
             is_last = number_of == len(senders) - 1
-            happens("proxy", heard(sender, PROXY, message), told(1, path) if is_last and path else [])
+            happens("proxy", heard(sender, PROXY, message), answers(1, path) if is_last and path else [])
 
 
 # ---- clients: client 1 of three proxies

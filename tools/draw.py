@@ -81,7 +81,7 @@ def wide(said, size=11, font_weight=None, **_):
 
 
 class News:
-    """What of a story is worth drawing: `idle` messages tell nothing new, `vain` arrivals change nothing."""
+    """What of a story is worth drawing: `idle` messages bring nothing new, `vain` arrivals change nothing."""
 
     def __init__(self, story, everything):
         self.idle, self.again, self.vain = set(), set(), set()
@@ -91,15 +91,15 @@ class News:
             self.idle = set()
 
     def find_repeated(self, story):
-        told, reported, asked = {}, {}, set()
+        named, reported, asked = {}, {}, set()
         for p in story.parcels:
             course = (p.sender, p.to)
             same = (*course, p.text)
             if p.kind == "log-mod":
                 # Heartbeats, and what an earlier one said as often as this one arrives.
-                if not p.fields["keys"] or told.get(same, -1) >= len(p.fates):
+                if not p.fields["keys"] or named.get(same, -1) >= len(p.fates):
                     self.idle.add(p.number)
-                told[same] = max(told.get(same, -1), len(p.fates))
+                named[same] = max(named.get(same, -1), len(p.fates))
             elif p.kind == "sync-report":
                 if reported.get(course, "0") == p.fields["synced"]:
                     self.idle.add(p.number)
@@ -418,9 +418,9 @@ class Drawing:
         self.over.append(text(x0 + 8, y + 4, said, 11.5, fill=hue, pointer_events="none", **of_it))
         if answer:
             ink = FAMILIES[answer.path][1]
-            told = f"{answer.answer}, {answer.path}"
-            out.append(tag("circle", title(f"tick {end.tick}: accepts {name}: {told}"), cx=x1, cy=y, r=5, fill=ink))
-            self.say(x1 + 6, y - 12, f"✓ {clipped(told, 30)}", fill=ink, **of_it)
+            outcome = f"{answer.answer}, {answer.path}"
+            out.append(tag("circle", title(f"tick {end.tick}: accepts {name}: {outcome}"), cx=x1, cy=y, r=5, fill=ink))
+            self.say(x1 + 6, y - 12, f"✓ {clipped(outcome, 30)}", fill=ink, **of_it)
         elif self.last == self.scenario.ticks:
             out.append(text(x1 - 6, y - 13, "open", 11, fill="#b91c1c", font_weight="bold", text_anchor="end"))
         return tag("g", *out, class_="bar", data_id=name)
@@ -437,7 +437,7 @@ class Drawing:
         return "\n".join(out)
 
     def name(self, now, p, named):
-        """The name at an arrow. Colours tell requests, replies and answers; others are named once a step, and the asks of a
+        """The name at an arrow. Colours show requests, replies and answers; others are named once a step, and the asks of a
         view change once a tick, what changes nothing only the first time."""
         word = "again" if p.number in self.news.again else p.kind
         if not p.fates or word != "again" and FAMILY[p.kind] not in ("view", "start", "rejoin") and "fetch" not in p.kind:

@@ -12,7 +12,7 @@ from dataclasses import dataclass, field, replace
 
 ROOT = os.path.dirname(os.path.dirname(os.path.abspath(__file__)))
 
-# Each kind of message: the sorts of its sender and receiver, and the fields that a story tells of it, in their order.
+# Each kind of message: the sorts of its sender and receiver, and the fields that a story shows of it, in their order.
 MESSAGES = {
     "request": ("cp", "num command"),
     "timed": ("pr", "sent deadline id"),
@@ -193,7 +193,7 @@ def read_text(lines):
 
 @dataclass(frozen=True)
 class State:
-    """What a story tells of a replica. Lists hold keys, as (deadline, id), in rising order."""
+    """What a story shows of a replica. Lists hold keys, as (deadline, id), in rising order."""
 
     mode: str = "normal"
     phase: str = ""
@@ -259,11 +259,11 @@ class Record:
 
     def is_stray(self):
         """Whether the replica knows a greater counter of the sender than the message has."""
-        told = self.parcel and self.parcel.fields.get("vector")
-        if self.what != "deliver" or self.actor[0] != "r" or not told or self.before.mode == "down" or not self.before.vector:
+        vector = self.parcel and self.parcel.fields.get("vector")
+        if self.what != "deliver" or self.actor[0] != "r" or not vector or self.before.mode == "down" or not self.before.vector:
             return False
         sender = int(self.parcel.sender[1:])
-        return vector_of(told)[sender] < self.before.vector[sender]
+        return vector_of(vector)[sender] < self.before.vector[sender]
 
     def decides(self):
         """The answers that a proxy sends because of a reply: here it decided."""
@@ -316,23 +316,23 @@ def inserted(keys, key):
 
 
 def state_of(text, before):
-    """The state after a line `now`. It tells the keys that came to a list; a key that comes leaves where its id was."""
+    """The state after a line `now`. It names the keys that came to a list; a key that comes leaves where its id was."""
     words = deque(text.split())
     mode = words.popleft()
     lists = {name: () if mode in ("down", "rejoining") else getattr(before, name) for name in ("log", "early", "late")}
-    told = {"phase": words.popleft() if mode == "rejoining" else ""}
+    fields = {"phase": words.popleft() if mode == "rejoining" else ""}
     while words:
         name = words.popleft()
         if name not in lists:
             value = words.popleft()
-            told[name] = vector_of(value) if name == "vector" else int(value)
+            fields[name] = vector_of(value) if name == "vector" else int(value)
             continue
         while words and words[0].startswith("+"):
             key = key_of(words.popleft()[1:])
             lists = {other: tuple(k for k in keys if k[1] != key[1]) for other, keys in lists.items()}
             lists[name] = inserted(lists[name], key)
-    told.pop("collected", None)
-    return replace(State() if mode == "down" else before, mode=mode, text=text, **told, **lists)
+    fields.pop("collected", None)
+    return replace(State() if mode == "down" else before, mode=mode, text=text, **fields, **lists)
 
 
 class Story:
@@ -364,7 +364,7 @@ class Story:
         now = Record(len(self.records), int(tick), actor, what, line, before=self.states.get(actor, State()))
         if what in ("deliver", "cut"):
             now.kept = int(words[2]) if what == "cut" else None
-            # What tick, ends, kind and kept bytes do not tell apart arrives in the order of sending.
+            # What tick, ends, kind and kept bytes do not distinguish arrives in the order of sending.
             now.parcel = self.under_way[now.tick, words[1], actor, words[0], now.kept].popleft()
             now.parcel.arrivals.append(now)
         self.records.append(now)

@@ -74,7 +74,7 @@ class Pictures(unittest.TestCase):
         self.assertEqual(re.findall(r"<title>tick (\d+): (\S+) \(([^)]*)\) leaves the log of (r\d)", text), [("22", "c1/1", "put b 2", "r4")])
         self.has(text, "tick 35: place 2 of the log of r4 is c1/1 (put b 2), synced")
 
-    def test_bands_tell_views_and_modes(self):
+    def test_bands_show_views_and_modes(self):
         text = drawn("leader_cut_off")
         bands = re.findall(r"<title>(r\d): (normal|view-change)[^<]* view (\d)", text)
         self.assertEqual(sorted(bands), sorted((f"r{k}", *it) for k in range(5) for it in (("normal", "0"), ("view-change", "1"), ("normal", "1"))))

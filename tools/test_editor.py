@@ -66,9 +66,9 @@ class Grammar(unittest.TestCase):
 
     def test_an_editor_finds_the_grammar(self):
         package, grammar = read("package.json")["contributes"], read("nezha.tmLanguage.json")
-        (told,) = package["grammars"]
-        self.assertEqual(told["scopeName"], grammar["scopeName"])
-        self.assertTrue(os.path.exists(os.path.join(EDITOR, told["path"])))
+        (entry,) = package["grammars"]
+        self.assertEqual(entry["scopeName"], grammar["scopeName"])
+        self.assertTrue(os.path.exists(os.path.join(EDITOR, entry["path"])))
         self.assertEqual([f".{name}" for name in grammar["fileTypes"]], package["languages"][0]["extensions"])
 
 

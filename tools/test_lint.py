@@ -1,5 +1,5 @@
 #!/usr/bin/env python3
-"""Tests of lint.py: refusals whose kinds docs/FORMATS.md tells, and all scenarios.
+"""Tests of lint.py: refusals whose kinds docs/FORMATS.md has, and all scenarios.
 
     test_lint.py --long [PROGRAM] [SEED]   compares 6,000 damaged scenarios or more with the program, 1,000 of each kind
 """

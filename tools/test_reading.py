@@ -121,7 +121,7 @@ class Stories(unittest.TestCase):
         self.assertEqual(sum(p.kind == "answer" for p in story.parcels), 4)
         self.assertEqual(sum(len(now.decides()) for now in story.records), 3)
 
-    def test_copies_and_cuts_are_told_apart(self):
+    def test_copies_and_cuts_are_distinguished(self):
         story = Story("""1 c0 tick 1000
   sends request p0 at 2 cut 5 at 2: num 1 command put a 1
   sends request p0 at 2: num 2 command get a

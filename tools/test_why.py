@@ -7,7 +7,7 @@ from reading import Story, Scenario
 from store import load, with_stories
 from why import explain, requests_of, table
 
-# What each scenario is about, as its first line says, told by a request of it.
+# What each scenario is about, as its first line says, seen by a request of it.
 REASONS = {
     "lost_message": ["c0/1 put a 1: slow after 15 ticks: a slow quorum came first (r0, r1; fast needs 3); r2: its copy was lost"],
     "cut_messages": ["c0/1 put a 1: slow after 15 ticks: a slow quorum came first (r0, r1; fast needs 3); r2: its copy was cut"],
@@ -64,7 +64,7 @@ class Why(unittest.TestCase):
         _, story = load("everybody_lost")
         self.assertEqual(table(requests_of(story)), ["ticks 14 requests 1", "open 1"])
 
-    def told(self, lines):
+    def causes(self, lines):
         story = Story(["1 c0 tick 1000", "  send c0 1 put a 1", *lines, "text", "send c0 1 put a 1", "open c0 1", "end"])
         (request,) = requests_of(story)
         return explain(Scenario(SMALL), request)
@@ -73,11 +73,11 @@ class Why(unittest.TestCase):
         for fate, said in (("lost", "was lost"), ("at 2 cut 3", "was cut"), ("at 40", "is on the way")):
             arrival = ["2 p0 cut request c0 3"] if "cut" in fate else []
             self.assertEqual(
-                self.told([f"  sends request p0 {fate}: num 1 command put a 1", *arrival]), f"c0/1 put a 1: open: the request to p0 at 1 {said}")
+                self.causes([f"  sends request p0 {fate}: num 1 command put a 1", *arrival]), f"c0/1 put a 1: open: the request to p0 at 1 {said}")
 
     def test_replies_that_differ_from_the_leaders(self):
         reply = "  sends fast-reply p0 at 4: view 0 id c0/1 digest {} vector {} delay 1{}"
-        told = self.told([
+        line = self.causes([
             "  sends request p0 at 2: num 1 command put a 1", "2 p0 deliver request c0",
             *(f"  sends timed r{k} at 3: sent 2000 deadline 2500 id c0/1" for k in range(3)),
             "3 r0 deliver timed p0", reply.format("00", "0,0,0", " answer done"),
@@ -86,7 +86,7 @@ class Why(unittest.TestCase):
             "4 p0 deliver fast-reply r0", "4 p0 deliver fast-reply r1", "4 p0 deliver fast-reply r2",
         ])
         self.assertEqual(
-            told, "c0/1 put a 1: open: p0 has an answer of a leader and replies of r0, r1, r2 "
+            line, "c0/1 put a 1: open: p0 has an answer of a leader and replies of r0, r1, r2 "
             "(r1's log before it differs from the leader's, r2 has another crash vector (0,0,1; the leader 0,0,0))")
 
     def test_what_comes_after_the_decision_is_no_cause(self):
@@ -98,13 +98,13 @@ class Why(unittest.TestCase):
                 ["3 r0 deliver timed p0", "  sends fast-reply p0 at 4: view 0 id c0/1 digest 00 vector 0,0,0 delay 1 answer done"]
 
         for fate, said in (("lost", "r2: its copy was lost"), ("at 9", "r2: its copy is on the way")):
-            told = self.told([
+            line = self.causes([
                 "  sends request p0 at 2 at 6: num 1 command put a 1", "2 p0 deliver request c0", *copy(2, fate), *reply(0), *reply(1),
                 "4 p0 deliver fast-reply r0", "4 p0 deliver slow-reply r1", "  sends answer c0 lost: num 1 answer done path slow",
                 "6 p0 deliver request c0", *copy(6, "at 7"), "7 r0 deliver timed p0", "7 r1 deliver timed p0", "7 r2 deliver timed p0",
                 *(["9 r2 deliver timed p0"] if "9" in fate else []),
             ])
-            self.assertIn(f"(r0, r1; fast needs 3); {said}; an answer", told)
+            self.assertIn(f"(r0, r1; fast needs 3); {said}; an answer", line)
 
     def test_a_reply_of_the_view_before_is_not_the_cause_if_one_of_this_view_comes_late(self):
         def reply(tick, actor, view, answer=""):
@@ -119,8 +119,8 @@ class Why(unittest.TestCase):
         late = [*reply(9, "r2", 1), "10 p0 deliver fast-reply r2"]
         head = "c0/1 put a 1: open, though p0 decided it at 9 (slow): a slow quorum came first (r0, r1; fast needs 3); "
         rest = "; an answer of tick 9 was lost"
-        self.assertEqual(self.told([*copies, *early, *decision]), f"{head}r2 replied in view 0{rest}")
-        self.assertEqual(self.told([*copies, *early, *decision, *late]), f"{head}r2: its reply came after the decision{rest}")
+        self.assertEqual(self.causes([*copies, *early, *decision]), f"{head}r2 replied in view 0{rest}")
+        self.assertEqual(self.causes([*copies, *early, *decision, *late]), f"{head}r2: its reply came after the decision{rest}")
 
 
 if __name__ == "__main__":

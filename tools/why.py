@@ -5,7 +5,7 @@
     why.py --table SCENARIO STORY  how many requests took how many ticks
 
 STORY is a file with the story of the run, or - for standard input. Of a replica that is not in the quorum the first cause
-that fits is told.
+that fits is named.
 """
 
 import argparse

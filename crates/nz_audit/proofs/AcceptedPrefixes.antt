@@ -42,7 +42,7 @@ use Rattle.nz_machine.proofs.runs.Runs.{acts_itself}
 use Rattle.nz_machine.proofs.journals.Accepting.{client_accepts}
 use Rattle.nz_laws_commit.specs.Present.{AreUpWithin}
 use Rattle.nz_laws_commit.proofs.Accepted.{same_parcel, gives}
-use Rattle.nz_laws_commit.proofs.ClientEvents.{told_accepted}
+use Rattle.nz_laws_commit.proofs.ClientEvents.{event_accepted}
 use Rattle.nz_laws_commit.proofs.Whole.{after_newer}
 use Rattle.nz_audit.specs.declared.accepted.answers.Source.{Source}
 use Rattle.nz_audit.specs.Sources.{numbers_of, in_numbers, about_message, about, source_sent, stands_for, delivered_source}
@@ -259,7 +259,7 @@ source_led : (journal : Journal) (r : Record) (J : List Record) (id : Id) (answe
     → (at : ReplySource) → accepted_source (group_in journal) id p J ≡ Some at → IsLed journal id at.sender at.run
 source_led journal r J id answer path rest p world w moment is adds at from =
     let g = group_in journal in
-    let t = gives g r J id answer path w (told_accepted g r J id answer path (first_has_it (Accepted id answer path) rest _ adds)) in
+    let t = gives g r J id answer path w (event_accepted g r J id answer path (first_has_it (Accepted id answer path) rest _ adds)) in
     let parcel : p ≡ t.parcel = same_parcel p t.parcel (sym is ∙ t.event) in
     let same : t.source ≡ at = same_Some t.source at (sym t.leads ∙ ap (λ (q : Parcel). accepted_source g id q J) (sym parcel) ∙ from) in
     subst (λ (s : ReplySource). IsLed journal id s.sender s.run) same (λ v replies. prefix_led g (run_in journal) r J id answer v world moment t replies)
@@ -271,7 +271,7 @@ prefix_first : (journal : Journal) (r : Record) (J : List Record) (id : Id) (ans
     → prefix_in (group_in journal) (Accepted id answer path ∷ rest) r.event J ≡ cut_after id (lead (group_in journal) 0 (run_in journal))
 prefix_first journal r J id answer path rest world w moment adds up =
     let g = group_in journal in
-    let t = gives g r J id answer path w (told_accepted g r J id answer path (first_has_it (Accepted id answer path) rest _ adds)) in
+    let t = gives g r J id answer path w (event_accepted g r J id answer path (first_has_it (Accepted id answer path) rest _ adds)) in
     ap (λ (l : List ClientEvent). prefix_in g l r.event J) adds ∙ t.is ∙ prefix_led_first g (run_in journal) r J id answer world moment up t
 
 accepts_at : (journal : Journal) (r : Record) (J : List Record) (x : AcceptedAt) (answer : AnswerModel) (path : Path) (rest : List ClientEvent)

@@ -85,7 +85,7 @@ longest_of_log log answers n count = ap (λ k. take k log) count ∙ longest_tak
 -- it is the history
 pub history_in_log : (journal : Journal) (answers : List AcceptedAt) (log : List Entry) → AreAccepted journal (run_in journal) answers
     → IsOnlyLog (group_in journal) (run_in journal) log → IsHistoryIn journal (run_in journal) answers log
-history_in_log journal answers log told only = subst (IsHistoryIn journal (run_in journal) answers) (sym only.log) (told.one_log only.up)
+history_in_log journal answers log are_accepted only = subst (IsHistoryIn journal (run_in journal) answers) (sym only.log) (are_accepted.one_log only.up)
 
 -- ---- a run without a journal
 

@@ -28,10 +28,10 @@ use Rattle.nz_buffers.proofs.Removing.{without_none, find_none, find_held}
 -- ---- a test of keys that finds an id
 
 -- The test passes a key where the entry has the id.
-abbrev pub Tells : {K : Type 0} → (K → Bool) → Id → K × Entry → Type 0
-Tells test i p = test p.0 ≡ id_eq i (id_of p.1.key)
+abbrev pub Agrees : {K : Type 0} → (K → Bool) → Id → K × Entry → Type 0
+Agrees test i p = test p.0 ≡ id_eq i (id_of p.1.key)
 
-pub lookup_is : {K : Type 0} (test : K → Bool) (i : Id) (es : List (K × Entry)) → AllByRecursion (Tells test i) es → lookup test es ≡ find_id (values_of es) i
+pub lookup_is : {K : Type 0} (test : K → Bool) (i : Id) (es : List (K × Entry)) → AllByRecursion (Agrees test i) es → lookup test es ≡ find_id (values_of es) i
 lookup_is test i [] all = refl
 lookup_is test i (p ∷ es) all =
     elim (cases_Bool (id_eq i (id_of p.1.key))) [
@@ -39,7 +39,7 @@ lookup_is test i (p ∷ es) all =
       | inr away ↦ rw (all.0, away) (lookup_is test i es all.1)
     ]
 
-pub removed_is : {K : Type 0} (test : K → Bool) (i : Id) (es : List (K × Entry)) → AllByRecursion (Tells test i) es → HaveOwnIds (keys_of (values_of es))
+pub removed_is : {K : Type 0} (test : K → Bool) (i : Id) (es : List (K × Entry)) → AllByRecursion (Agrees test i) es → HaveOwnIds (keys_of (values_of es))
     → values_of (remove_entry test es) ≡ without (values_of es) i
 removed_is test i [] all own = refl
 removed_is test i (p ∷ es) all own =
@@ -61,9 +61,9 @@ all_removed P test (p ∷ es) all =
 
 -- ---- by ids
 
-pub ids_tell : (i : Id) (es : List (Id × Entry)) → AllByRecursion IsAtItsId es → AllByRecursion (Tells (id_eq i) i) es
-ids_tell i [] all = tt
-ids_tell i (p ∷ es) all = (ap (id_eq i) all.0, ids_tell i es all.1)
+pub ids_agree : (i : Id) (es : List (Id × Entry)) → AllByRecursion IsAtItsId es → AllByRecursion (Agrees (id_eq i) i) es
+ids_agree i [] all = tt
+ids_agree i (p ∷ es) all = (ap (id_eq i) all.0, ids_agree i es all.1)
 
 pub by_ids_push : (es : List (Id × Entry)) (e : Entry) → AreByIds es
     → has_id (keys_of (values_of es)) (id_of e.key) ≡ false → AreByIds (es ++ (id_of e.key, e) ∷ [])
@@ -83,7 +83,7 @@ by_ids_removed es i old = record {
   at = all_removed IsAtItsId (id_eq i) es old.at;
   own =
       subst (λ (xs : List Entry). HaveOwnIds (keys_of xs))
-      (sym (removed_is (id_eq i) i es (ids_tell i es old.at) old.own)) (own_filter (λ (x : Entry). not (id_eq i (id_of x.key))) (values_of es) old.own);
+      (sym (removed_is (id_eq i) i es (ids_agree i es old.at) old.own)) (own_filter (λ (x : Entry). not (id_eq i (id_of x.key))) (values_of es) old.own);
 }
 
 -- ---- by keys
@@ -111,8 +111,8 @@ found_id (v ∷ vs) i k h =
     some_key : (a b : Key) → Some a ≡ Some b → a ≡ b
     some_key a b h = cc
 
-tells_away : (i : Id) (k : Key) (p : Key × Entry) → id_eq i (id_of k) ≡ true → IsAtItsKey p → id_eq i (id_of p.1.key) ≡ false → Tells (is_at (key_cmp k)) i p
-tells_away i k p has at away =
+agrees_away : (i : Id) (k : Key) (p : Key × Entry) → id_eq i (id_of k) ≡ true → IsAtItsKey p → id_eq i (id_of p.1.key) ≡ false → Agrees (is_at (key_cmp k)) i p
+agrees_away i k p has at away =
     elim (cases_Bool (is_eq (key_cmp k p.0))) [
       | inr other ↦ other ∙ sym away
       | inl same ↦
@@ -120,27 +120,27 @@ tells_away i k p has at away =
           true_and_false (id_eq i (id_of p.1.key)) (subst (λ (x : Key). id_eq i (id_of x) ≡ true) is has) away
     ]
 
-none_tell : (i : Id) (k : Key) (es : List (Key × Entry)) → id_eq i (id_of k) ≡ true → AllByRecursion IsAtItsKey es → has_id (keys_of (values_of es)) i ≡ false
-    → AllByRecursion (Tells (is_at (key_cmp k)) i) es
-none_tell i k [] has all away = tt
-none_tell i k (p ∷ es) has all away = (
-  tells_away i k p has all.0 (or_parts (id_eq i (id_of p.1.key)) (has_id (keys_of (values_of es)) i) away).0,
-  none_tell i k es has all.1 (or_parts (id_eq i (id_of p.1.key)) (has_id (keys_of (values_of es)) i) away).1,
+none_agree : (i : Id) (k : Key) (es : List (Key × Entry)) → id_eq i (id_of k) ≡ true → AllByRecursion IsAtItsKey es → has_id (keys_of (values_of es)) i ≡ false
+    → AllByRecursion (Agrees (is_at (key_cmp k)) i) es
+none_agree i k [] has all away = tt
+none_agree i k (p ∷ es) has all away = (
+  agrees_away i k p has all.0 (or_parts (id_eq i (id_of p.1.key)) (has_id (keys_of (values_of es)) i) away).0,
+  none_agree i k es has all.1 (or_parts (id_eq i (id_of p.1.key)) (has_id (keys_of (values_of es)) i) away).1,
 )
 
-pub keys_tell : (i : Id) (k : Key) (es : List (Key × Entry)) → AllByRecursion IsAtItsKey es
+pub keys_agree : (i : Id) (k : Key) (es : List (Key × Entry)) → AllByRecursion IsAtItsKey es
     → HaveOwnIds (keys_of (values_of es)) → option_map (λ (e : Entry). e.key) (find_id (values_of es) i) ≡ Some k
-    → AllByRecursion (Tells (is_at (key_cmp k)) i) es
-keys_tell i k [] all own h = tt
-keys_tell i k (p ∷ es) all own h =
+    → AllByRecursion (Agrees (is_at (key_cmp k)) i) es
+keys_agree i k [] all own h = tt
+keys_agree i k (p ∷ es) all own h =
     elim (cases_Bool (id_eq i (id_of p.1.key))) [
-      | inr away ↦ (tells_away i k p (found_id (values_of (p ∷ es)) i k h) all.0 away, keys_tell i k es all.1 own.1 (rw away at h))
+      | inr away ↦ (agrees_away i k p (found_id (values_of (p ∷ es)) i k h) all.0 away, keys_agree i k es all.1 own.1 (rw away at h))
       | inl here ↦
           let has = found_id (values_of (p ∷ es)) i k h in
           let is : p.1.key ≡ k = some_key p.1.key k (rw here at h) in
           let free : has_id (keys_of (values_of es)) i ≡ false =
           subst (λ (j : Id). has_id (keys_of (values_of es)) j ≡ false) (sym (same_id i (id_of p.1.key) here)) own.0 in
-          (ap is_eq (ap (key_cmp k) (all.0 ∙ is) ∙ key_self k) ∙ sym here, none_tell i k es has all.1 free)
+          (ap is_eq (ap (key_cmp k) (all.0 ∙ is) ∙ key_self k) ∙ sym here, none_agree i k es has all.1 free)
     ]
   where
     some_key : (a b : Key) → Some a ≡ Some b → a ≡ b
@@ -152,7 +152,7 @@ pub kept_removed : (es : List (Key × Entry)) (keys now : List (Id × Key)) (i :
 kept_removed es keys now i k old here index =
     let vs = values_of es in
     let is : values_of (remove_entry (is_at (key_cmp k)) es) ≡ without vs i =
-    removed_is (is_at (key_cmp k)) i es (keys_tell i k es old.at old.log.own_ids (sym (old.found i) ∙ here)) old.log.own_ids in
+    removed_is (is_at (key_cmp k)) i es (keys_agree i k es old.at old.log.own_ids (sym (old.found i) ∙ here)) old.log.own_ids in
     record {
       at = all_removed IsAtItsKey (is_at (key_cmp k)) es old.at;
       log = subst IsLog (sym is) (log_filter (λ (x : Entry). not (id_eq i (id_of x.key))) vs old.log);
@@ -280,7 +280,7 @@ none_found vs i h = none (find_id vs i) h
 pub none_without : (vs : List Entry) (i : Id) → find_id vs i ≡ None → vs ≡ without vs i
 none_without vs i h = sym (without_none vs i (sym (find_held vs i) ∙ ap is_some h))
 
--- an answer that is what is found tells whether the id is held
+-- an answer that is what is found shows whether the id is held
 pub answer_held : (o : Option Entry) (vs : List Entry) (i : Id) → o ≡ find_id vs i → IsSome o ↔ IsTrue (has_id (keys_of vs) i)
 answer_held o vs i is = (λ some. sym (find_held vs i) ∙ ap is_some (sym is) ∙ some, λ held. ap is_some is ∙ find_held vs i ∙ held)
 

@@ -87,9 +87,10 @@ plain_lin E H lin = record {
 -- ---- the entries of a history with the answers of one store
 
 -- the entries that are left, after those before
-told : List Entry → List Entry → List Executed
-told before [] = []
-told before (e ∷ rest) = record { id = id_of e.key; command = e.command; answer = answer_after (commands before) e.command } ∷ told (before ++ e ∷ []) rest
+executions : List Entry → List Entry → List Executed
+executions before [] = []
+executions before (e ∷ rest) =
+    record { id = id_of e.key; command = e.command; answer = answer_after (commands before) e.command } ∷ executions (before ++ e ∷ []) rest
 
 length_commands : (H : List Entry) → length (commands H) ≡ length H
 length_commands [] = refl
@@ -104,36 +105,36 @@ reply_now a b e =
     (take_cut (commands a) (e.command ∷ commands b))
     ∙ ap (option_map (answer_after (commands a))) (get_cut (commands a) (commands b) e.command)
 
-all_told : (H before rest : List Entry) → H ≡ before ++ rest → executed_from H (length before) rest ≡ told before rest
-unfolding told
-all_told H before [] is = refl
-all_told H before (e ∷ rest) is =
+all_executions : (H before rest : List Entry) → H ≡ before ++ rest → executed_from H (length before) rest ≡ executions before rest
+unfolding executions
+all_executions H before [] is = refl
+all_executions H before (e ∷ rest) is =
     let here : reply (commands H) (length before) ≡ Some (answer_after (commands before) e.command) =
     ap (λ (l : List Entry). reply (commands l) (length before)) is ∙ reply_now before rest e in
     let long : suc (length before) ≡ length (before ++ e ∷ []) = let all = length-append before (e ∷ []) in omega (arith, all) in
     ap (λ (o : Option Answer). executed_if_answered e o ++ executed_from H (suc (length before)) rest) here
     ∙ ap (λ (n : ℕ). record { id = id_of e.key; command = e.command; answer = answer_after (commands before) e.command } ∷ executed_from H n rest) long
     ∙ ap (λ (l : List Executed). record { id = id_of e.key; command = e.command; answer = answer_after (commands before) e.command } ∷ l)
-    (all_told H (before ++ e ∷ []) rest (is ∙ sym (append_assoc before (e ∷ []) rest)))
+    (all_executions H (before ++ e ∷ []) rest (is ∙ sym (append_assoc before (e ∷ []) rest)))
 
-told_commands : (before rest : List Entry) → commands_of (told before rest) ≡ commands rest
-unfolding told
-told_commands before [] = refl
-told_commands before (e ∷ rest) = ap (λ (l : List (List ℕ)). e.command ∷ l) (told_commands (before ++ e ∷ []) rest)
+execution_commands : (before rest : List Entry) → commands_of (executions before rest) ≡ commands rest
+unfolding executions
+execution_commands before [] = refl
+execution_commands before (e ∷ rest) = ap (λ (l : List (List ℕ)). e.command ∷ l) (execution_commands (before ++ e ∷ []) rest)
 
-told_entries : (before rest : List Entry) → entries_of (told before rest) ≡ map plain rest
-unfolding told plain
-told_entries before [] = refl
-told_entries before (e ∷ rest) = ap (λ (l : List Entry). plain e ∷ l) (told_entries (before ++ e ∷ []) rest)
+execution_entries : (before rest : List Entry) → entries_of (executions before rest) ≡ map plain rest
+unfolding executions plain
+execution_entries before [] = refl
+execution_entries before (e ∷ rest) = ap (λ (l : List Entry). plain e ∷ l) (execution_entries (before ++ e ∷ []) rest)
 
-told_answers : (before rest : List Entry) → map (λ x. x.answer) (told before rest) ≡ replies_from (store_after (commands before)) (commands rest)
-unfolding told replies_from
-told_answers before [] = refl
-told_answers before (e ∷ rest) =
+execution_answers : (before rest : List Entry) → map (λ x. x.answer) (executions before rest) ≡ replies_from (store_after (commands before)) (commands rest)
+unfolding executions replies_from
+execution_answers before [] = refl
+execution_answers before (e ∷ rest) =
     let next : store_after (commands (before ++ e ∷ [])) ≡ (apply_bytes (store_after (commands before)) e.command).0 =
     ap store_after (map-append (λ (x : Entry). x.command) before (e ∷ [])) ∙ store_after-push (commands before) e.command in
     ap (λ (l : List Answer). answer_after (commands before) e.command ∷ l)
-    (told_answers (before ++ e ∷ []) rest ∙ ap (λ s. replies_from s (commands rest)) next)
+    (execution_answers (before ++ e ∷ []) rest ∙ ap (λ s. replies_from s (commands rest)) next)
 
 -- ---- runs
 
@@ -144,15 +145,15 @@ run_is_checked : (g : Group) (J : List Record) → Lin (events g J) (history g J
 unfolding store_from
 run_is_checked g J lin =
     let H = history g J in
-    let same : executed_entries H ≡ told [] H = all_told H [] H refl in
+    let same : executed_entries H ≡ executions [] H = all_executions H [] H refl in
     record {
       in_form = run_in_form g J;
       open_lines = refl;
       answers =
-          ap (map (λ (x : Executed). x.answer)) same ∙ told_answers [] H
-          ∙ ap replies (sym (told_commands [] H) ∙ ap commands_of (sym same));
+          ap (map (λ (x : Executed). x.answer)) same ∙ execution_answers [] H
+          ∙ ap replies (sym (execution_commands [] H) ∙ ap commands_of (sym same));
       one_history =
-          subst (Lin (events g J)) (sym (told_entries [] H) ∙ ap entries_of (sym same)) (plain_lin (events g J) H lin);
+          subst (Lin (events g J)) (sym (execution_entries [] H) ∙ ap entries_of (sym same)) (plain_lin (events g J) H lin);
     }
 
 pub run_accepted : (g : Group) (J : List Record) → World g J → Lin (events g J) (history g J) → length (text g J) ≤ MAX_PRINTED → checked (text g J) ≡ Yes

@@ -418,7 +418,7 @@ module _ (p : Printed) (lin : Lin p.events (entries_of p.history))
   answer_is : (a b : List Executed) (x : Executed) → p.history ≡ a ++ x ∷ b → answer_after (commands_of a) x.command ≡ x.answer
   answer_is a b x e =
       let long : length a ≡ length (map (λ (y : Executed). y.answer) a) = sym (length_answers a) in
-      let told : slice_get (map (λ (y : Executed). y.answer) p.history) (length a) ≡ Some x.answer =
+      let recorded : slice_get (map (λ (y : Executed). y.answer) p.history) (length a) ≡ Some x.answer =
       ap (λ (l : List Executed). slice_get (map (λ (y : Executed). y.answer) l) (length a)) e
       ∙ ap (λ (l : List Answer). slice_get l (length a)) (map-append (λ (y : Executed). y.answer) a (x ∷ b))
       ∙ ap (slice_get (map (λ (y : Executed). y.answer) a ++ x.answer ∷ map (λ (y : Executed). y.answer) b)) long
@@ -426,10 +426,10 @@ module _ (p : Printed) (lin : Lin p.events (entries_of p.history))
       let said : slice_get (replies (commands_of p.history)) (length a) ≡ Some (answer_after (commands_of a) x.command) =
       slice_get-replies (commands_of p.history) (length a) ∙ ap (λ (l : List Executed). reply (commands_of l) (length a)) e ∙ reply_at a b x in
       same_Some (answer_after (commands_of a) x.command) x.answer
-      (sym said ∙ ap (λ (l : List Answer). slice_get l (length a)) (sym answers) ∙ told)
+      (sym said ∙ ap (λ (l : List Answer). slice_get l (length a)) (sym answers) ∙ recorded)
 
-  pub answer_told : (id : Id) (answer : Answer) (path : Path) → Has p.events (Accepted id answer path) → answer_at id p.history ≡ Some answer
-  answer_told id answer path h =
+  pub answer_recorded : (id : Id) (answer : Answer) (path : Path) → Has p.events (Accepted id answer path) → answer_at id p.history ≡ Some answer
+  answer_recorded id answer path h =
       let by = lin.answered id answer path h in
       let t = first_of_place id p.history by.place by.place_is in
       let said : Some (answer_after (commands_of t.before) t.entry.command) ≡ Some answer =

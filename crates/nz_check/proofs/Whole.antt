@@ -20,7 +20,7 @@ use Rattle.nz_check.proofs.Lines.{AreFine, EachFine, fine_of_yes, yes_of_fine, f
 use Rattle.nz_check.proofs.Forms.{fine_in_form, events_are_fine}
 use Rattle.nz_check.proofs.OpenLines.{open_lines_are, open_lines_are_fine, open_lines_do_not_lack}
 use Rattle.nz_check.proofs.Sizes.{few_lines}
-use Rattle.nz_check.proofs.Histories.{fine_entry, fine_answers, fine_history, answer_told, entries_are_fine}
+use Rattle.nz_check.proofs.Histories.{fine_entry, fine_answers, fine_history, answer_recorded, entries_are_fine}
 
 each : {X : Type 0} (why_of : List X → X → Option Why) (xs : List X) → AreFine (whys why_of [] xs) → EachFine why_of [] xs
 each {X = X} why_of xs h a b x e = each_of_fine why_of [] a b x (subst (λ (l : List X). AreFine (whys why_of [] l)) e h)
@@ -64,7 +64,7 @@ yes_of_checked p h =
     (why_none ((length p.history == 0) && lacks_open p) Open None (and_false (length p.history == 0) (lacks_open p) lack) refl, tt) in
     yes_of_fine 1 (events ++ (opens ++ (ats ++ end_why p ∷ [])))
     (fine_both events (opens ++ (ats ++ end_why p ∷ []))
-    (fine_of_each (event_why p) [] p.events (events_are_fine p h.in_form (answer_told p h.one_history h.answers)))
+    (fine_of_each (event_why p) [] p.events (events_are_fine p h.in_form (answer_recorded p h.one_history h.answers)))
     (fine_both opens (ats ++ end_why p ∷ []) (fine_of_each (open_why p) [] p.unanswered (open_lines_are_fine p h.open_lines))
     (fine_both ats (end_why p ∷ []) (fine_of_each (at_why p) [] p.history (entries_are_fine p h.one_history h.answers h.in_form lack)) last)))
 

@@ -1,4 +1,4 @@
--- What is told over several calls.
+-- What is lost and gained over several calls.
 use Rattle.std.proofs.Common.{◌≡◌, ℕ, ◌+◌, ◌≤◌, List, ◌++◌, length, take, drop, Option, Some, None, sym, ap, ◌∙◌, subst, arith, rules}
 use Rattle.std.proofs.lemmas.List.{take-append-drop, length-take-le, drop-drop, take_at, take-take, drop-take}
 use Rattle.std.proofs.lemmas.Grind.{common_steps}

@@ -11,12 +11,12 @@ use Rattle.nz_lane.specs.declared.item.ItemRefusal.TheVariants.{Cut}
 use Rattle.nz_lane.specs.Items.{spelling}
 use Rattle.nz_lane.specs.Reading.{wanted, item_of, item_at}
 use Rattle.nz_lane.specs.Streams.{Held, ahead}
-use Rattle.nz_lane.specs.Stops.{IsToldBy}
+use Rattle.nz_lane.specs.Stops.{IsSettledBy}
 use Rattle.nz_lane.proofs.Sizes.{size_known, wanted_own, item_whole, item_stays}
 use Rattle.nz_lane.proofs.Read.{IsSpelled, own_item, cut_at}
 
 -- nothing is ahead where nothing is held and nothing comes
-pub at_end : (held : Held) (left : Option (List ℕ)) → length held.bytes ≡ 0 → IsToldBy held left → IfSome (ahead held left) (λ rest. rest ≡ [])
+pub at_end : (held : Held) (left : Option (List ℕ)) → length held.bytes ≡ 0 → IsSettledBy held left → IfSome (ahead held left) (λ rest. rest ≡ [])
 at_end held left none (inl whole) = absurd (omega (arith, none, whole, (size_known held.bytes).least))
 at_end held None none (inr e) = tt
 at_end held (Some rest) none (inr e) = λ i. nil_from_length held.bytes none i ++ e i
@@ -26,7 +26,7 @@ abbrev pub Refuses : ItemRefusal → List ℕ → Type 0
 Refuses why bytes = (0 < length bytes) × (item_at bytes ≡ Err why)
 
 -- where the input ends within an item
-pub cut_ahead : (held : Held) (left : Option (List ℕ)) → 0 < length held.bytes → length held.bytes < wanted held.bytes → IsToldBy held left
+pub cut_ahead : (held : Held) (left : Option (List ℕ)) → 0 < length held.bytes → length held.bytes < wanted held.bytes → IsSettledBy held left
     → IfSome (ahead held left) (Refuses Cut)
 cut_ahead held left some few (inl whole) = absurd (omega (arith, few, whole))
 cut_ahead held None some few (inr e) = tt

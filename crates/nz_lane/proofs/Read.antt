@@ -167,16 +167,16 @@ pub cut_at : (bytes : List ℕ) → length bytes < wanted bytes → item_at byte
 unfolding item_at
 cut_at bytes few = rw (lt-ltb (length bytes) (wanted bytes) few) refl
 
--- what is told is told of a whole item
-pub told_whole : (bytes : List ℕ) → ¬ (item_at bytes ≡ Err Cut) → wanted bytes ≤ length bytes
-told_whole bytes told =
+-- what is settled has the bytes of a whole item
+pub settled_whole : (bytes : List ℕ) → ¬ (item_at bytes ≡ Err Cut) → wanted bytes ≤ length bytes
+settled_whole bytes settled =
     elim (cases_lt (length bytes) (wanted bytes)) [
-      | inl few ↦ absurd (told (cut_at bytes few))
+      | inl few ↦ absurd (settled (cut_at bytes few))
       | inr whole ↦ whole
     ]
 
 pub read_whole : (bytes : List ℕ) (item : Item) → item_at bytes ≡ Ok item → wanted bytes ≤ length bytes
-read_whole bytes item e = told_whole bytes (λ cut. let clash : Ok item ≡ Err Cut = sym e ∙ cut in absurd cc)
+read_whole bytes item e = settled_whole bytes (λ cut. let clash : Ok item ≡ Err Cut = sym e ∙ cut in absurd cc)
 
 -- the item that is read has the bytes of its size
 pub read_own : (bytes : List ℕ) (item : Item) → AreBytes bytes → item_at bytes ≡ Ok item → IsSpelled item (take (wanted bytes) bytes)

@@ -138,7 +138,7 @@ unfolding wanted
 size_known [] = record { least = omega arith; most = omega arith }
 size_known (first ∷ bytes) = let s = sort_size (sort_of first) (first ∷ bytes) in record { least = s.least; most = s.most }
 
--- the size is told alike by enough bytes and by all
+-- enough bytes have the same size as all
 pub wanted_same : (own rest : List ℕ) → (wanted own ≤ length own) ⊎ (wanted (own ++ rest) ≤ length own) → wanted (own ++ rest) ≡ wanted own
 unfolding wanted
 wanted_same [] rest (inl h) = absurd (omega (arith, h))

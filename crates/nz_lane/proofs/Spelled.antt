@@ -84,6 +84,7 @@ read_request command rest short is =
 
 -- ---- any item
 
+-- The spelling of an item is read as that item, whatever follows.
 pub written : (item : Item) (rest : List ℕ) → IsValidItem item → item_at (spelling item ++ rest) ≡ Ok item
 written (items.Frame bytes) rest valid = read_frame bytes rest valid.0 valid.1
 written (items.Clock reading) rest valid =

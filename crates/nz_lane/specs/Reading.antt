@@ -27,7 +27,7 @@ sort_of first =
 
 -- ---- how many bytes an item has
 
--- A frame's length tells it, if the length is in its range. Else the length is looked at alone.
+-- A frame's length says it, if the length is in its range. Else the length is looked at alone.
 abbrev pub frame_wanted : List ℕ → ℕ
 frame_wanted bytes = if nat_lt (length bytes) 4 then 4 else (if is_in_range 6 16777216 (stated_size bytes) then end_of bytes else 4)
 
@@ -35,7 +35,7 @@ frame_wanted bytes = if nat_lt (length bytes) 4 then 4 else (if is_in_range 6 16
 abbrev pub command_size : List ℕ → ℕ
 command_size bytes = big_number 2 (drop 1 bytes)
 
--- A request's length tells it, if it is in its range. Else the first byte and the length are looked at alone.
+-- A request's length says it, if it is in its range. Else the first byte and the length are looked at alone.
 abbrev pub request_wanted : List ℕ → ℕ
 request_wanted bytes = if nat_lt (length bytes) 3 then 3 else (if nat_le (command_size bytes) MAX_COMMAND then 3 + command_size bytes else 3)
 
@@ -49,7 +49,7 @@ wanted_by (Some Crash) bytes = 1
 wanted_by (Some Restart) bytes = 9
 wanted_by (Some Request) bytes = request_wanted bytes
 
--- How many bytes there have to be before the item at the beginning can be told, as far as the bytes say it.
+-- How many bytes there have to be before the item at the beginning is settled, as far as the bytes say it.
 unfoldable pub wanted : List ℕ → ℕ
 wanted [] = 1
 wanted (first ∷ bytes) = wanted_by (sort_of first) (first ∷ bytes)

@@ -17,5 +17,5 @@ IsRefusalOf here left (Refused place why) = (place ≡ here) × IfSome left (λ 
 IsRefusalOf here left _ = Unit {0}
 
 -- The item at the beginning is whole, or no further bytes come.
-abbrev pub IsToldBy : Held → Option (List ℕ) → Type 0
-IsToldBy held left = (wanted held.bytes ≤ length held.bytes) ⊎ IfSome left (λ rest. rest ≡ [])
+abbrev pub IsSettledBy : Held → Option (List ℕ) → Type 0
+IsSettledBy held left = (wanted held.bytes ≤ length held.bytes) ⊎ IfSome left (λ rest. rest ≡ [])

@@ -28,7 +28,7 @@ pub enum Item {
     Frame(Frame),
     /// The node's clock reads this many clock units, at most `MAX_CLOCK`.
     Clock(u64),
-    /// The node is told that the leader is lost.
+    /// The node learns that the leader is lost.
     Alarm,
     /// The node forgets all, and is down.
     Crash,

@@ -5,7 +5,7 @@ ghost use Rattle.nz_edge.specs.Faults.{Rose};
 ghost use Rattle.nz_edge.specs.Exposed.{Loses};
 ghost use Rattle.nz_lane.specs.Items.{IsValidItem};
 ghost use Rattle.nz_lane.specs.Streams.{ahead, given, place_after};
-ghost use Rattle.nz_lane.specs.Stops.{IsNoRefusal, IsRefusalOf, IsToldBy};
+ghost use Rattle.nz_lane.specs.Stops.{IsNoRefusal, IsRefusalOf, IsSettledBy};
 ghost use Rattle.nz_lane.specs.declared.lane_reader.Stop.TheVariants as stops;
 
 use super::item::{Item, ItemRefusal};
@@ -92,7 +92,7 @@ impl LaneReader {
     fn fill<S: Source>(&mut self, source: &mut S) -> Result<(), Stop>
         ensures ahead { ahead self.old (S.left source.old) ≡ ahead self.new (S.left source.new) }
         ensures place { self.new.place ≡ self.old.place }
-        ensures whole { OnOk result (IsToldBy self.new (S.left source.new)) }
+        ensures whole { OnOk result (IsSettledBy self.new (S.left source.new)) }
         ensures fault { result ≡ Err stops.Fault → Rose (S.faults source.old) (S.faults source.new) }
         ensures counts { S.faults source.old ≤ S.faults source.new }
         ensures ours { IfErr result IsNoRefusal }

@@ -20,7 +20,7 @@ pub fn only_items_are_read()
         → bytes ≡ spelling item ++ drop (length (spelling item)) bytes }
 {}
 
-/// What is told of bytes stays told when further bytes come.
+/// What is settled by bytes stays so when further bytes come.
 pub fn later_bytes_change_nothing()
     ensures { (bytes more : List ℕ) → item_at bytes ≢ Err Cut → item_at (bytes ++ more) ≡ item_at bytes }
 {}

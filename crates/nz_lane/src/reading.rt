@@ -64,7 +64,7 @@ fn request_wanted(bytes: &[u8]) -> usize
     }
 }
 
-/// How many bytes there have to be before the item at the beginning can be told, as far as the bytes say it.
+/// How many bytes there have to be before the item at the beginning is settled, as far as the bytes say it.
 #[tactic(auto, unfolding(crate::specs::Reading::wanted))]
 pub fn wanted(bytes: &[u8]) -> usize
     ensures value { result ≡ words.wanted bytes.now }

@@ -38,14 +38,14 @@ use Rattle.nz_machine.specs.runs.Leading.{leader_at}
 use Rattle.nz_base.proofs.Prefixes.{prefix_length}
 use Rattle.nz_base.specs.declared.limits.TheConstants.{MAX_ENTRIES}
 use Rattle.nz_laws_commit.proofs.Places.{own_prefix}
-use Rattle.nz_laws_commit.proofs.ReadMessages.{told_at}
+use Rattle.nz_laws_commit.proofs.ReadMessages.{message_source}
 use Rattle.nz_laws_commit.proofs.FactsStay.{facts_stay}
 use Rattle.nz_laws_commit.proofs.Answering.{IsGiven, given_later}
 use Rattle.nz_laws_commit.proofs.ReplySources.{delivers}
 use Rattle.nz_laws_commit.proofs.NotedWereSent.{IsBacked, backed_later}
 use Rattle.nz_laws_commit.proofs.AnswersSent.{LeadsBack, answer_source}
 use Rattle.nz_machine.proofs.journals.Accepting.{IsAnswerTo, client_accepts}
-use Rattle.nz_laws_commit.proofs.ClientEvents.{AcceptsAnswer, told_accepted}
+use Rattle.nz_laws_commit.proofs.ClientEvents.{AcceptsAnswer, event_accepted}
 use Rattle.nz_laws_commit.proofs.OwnCommands.{WasSent, own_command}
 
 -- ---- what a leader's log has, up to an entry
@@ -115,10 +115,10 @@ gives_by g r J id a path w t to =
     let by : MayHappen J (Client c) r.event = subst (λ (x : Actor). MayHappen J x r.event) t.by w.0.event in
     let may : MayHappen J (Client c) (Deliver p) = subst (MayHappen J (Client c)) d.is by in
     let s = has_source p J may.1 in
-    let told = told_at g J w.1 (Client c) p e d.heard s.0 s.1 in
+    let message = message_source g J w.1 (Client c) p e d.heard s.0 s.1 in
     let id_is : id_at c t.body.num ≡ id = sym t.id_is in
     let back : LeadsBack g J (id_at c t.body.num) t.body.answer p.from s.0 =
-    answer_source g J s.0 p e c t.body w.1 told
+    answer_source g J s.0 p e c t.body w.1 message
     (record { proxy = to.proxy; sender = to.sender; receiver = read_to g J (Client c) p e w.1 may d.heard; message = t.message }) in
     let mine : LeadsBack g J id t.body.answer p.from s.0 = subst (λ (x : Id). LeadsBack g J x t.body.answer p.from s.0) id_is back in
     let prefix = prefix_at_source g id mine.source in
@@ -129,7 +129,7 @@ gives_by g r J id a path w t to =
       event = d.is;
       prefix = prefix;
       found = found;
-      is = ap (λ (l : List ClientEvent). prefix_in g l r.event J) t.told ∙ ap (λ (e : Event). prefix_in g (Accepted id a path ∷ t.rest) e J) d.is
+      is = ap (λ (l : List ClientEvent). prefix_in g l r.event J) t.events_are ∙ ap (λ (e : Event). prefix_in g (Accepted id a path ∷ t.rest) e J) d.is
           ∙ ap entries_or found;
       reply = mine.reply;
       source = mine.source;
@@ -169,7 +169,7 @@ same_parcel p q e = cc
 pub accepted_given : (g : Group) (J : List Record) → World g J → (P : List Entry) → IsAccepted g P J → IsGivenOnce g J P
 accepted_given g [] w P h = absurd h
 accepted_given g (r ∷ J) w P (inl a) =
-    let t = gives g r J a.id a.answer a.path w (told_accepted g r J a.id a.answer a.path a.told) in
+    let t = gives g r J a.id a.answer a.path w (event_accepted g r J a.id a.answer a.path a.accepted_there) in
     let parcel : t.parcel ≡ a.brought = same_parcel t.parcel a.brought (sym t.event ∙ a.event) in
     let same : t.prefix ≡ P = same_Some t.prefix P (sym t.found ∙ ap (λ (p : Parcel). accepted_prefix g a.id p J) parcel ∙ a.prefix) in
     record {
@@ -210,7 +210,7 @@ decided_later g J K at v P h = record {
 decided_now : (g : Group) (r : Record) (J : List Record) (v : ℕ) (P : List Entry) → World g (r ∷ J) → AcceptsIn g v P r J → IsDecidedIn g J v P
 decided_now g r J v P w h =
     let a = h.accepts in
-    let t = gives g r J a.id a.answer a.path w (told_accepted g r J a.id a.answer a.path a.told) in
+    let t = gives g r J a.id a.answer a.path w (event_accepted g r J a.id a.answer a.path a.accepted_there) in
     let parcel : t.parcel ≡ a.brought = same_parcel t.parcel a.brought (sym t.event ∙ a.event) in
     let same : t.prefix ≡ P = same_Some t.prefix P (sym t.found ∙ ap (λ (p : Parcel). accepted_prefix g a.id p J) parcel ∙ a.prefix) in
     let view : view_of t.reply ≡ v = same_Some (view_of t.reply) v (sym t.view ∙ ap (λ (p : Parcel). accepted_view g a.id p J) parcel ∙ h.view) in
@@ -234,7 +234,7 @@ decided_in g (r ∷ J) w v P (inr b) = decided_later g (r ∷ J) J (inr (at_self
 pub accepted_somewhere : (g : Group) (J : List Record) → World g J → (P : List Entry) → IsAccepted g P J → (v : ℕ) × IsAcceptedIn g v P J
 accepted_somewhere g [] w P h = absurd h
 accepted_somewhere g (r ∷ J) w P (inl a) =
-    let t = gives g r J a.id a.answer a.path w (told_accepted g r J a.id a.answer a.path a.told) in
+    let t = gives g r J a.id a.answer a.path w (event_accepted g r J a.id a.answer a.path a.accepted_there) in
     let parcel : t.parcel ≡ a.brought = same_parcel t.parcel a.brought (sym t.event ∙ a.event) in
     (view_of t.reply, inl (record { accepts = a; view = ap (λ (p : Parcel). accepted_view g a.id p J) (sym parcel) ∙ t.view }))
 accepted_somewhere g (r ∷ J) w P (inr b) = let h = accepted_somewhere g J w.1 P b in (h.0, inr h.1)

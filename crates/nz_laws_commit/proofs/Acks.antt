@@ -37,9 +37,9 @@ pub had_fewer : (g : Group) (J : List Record) (v y n count : ℕ) → n ≤ coun
 had_fewer g J v y n count few h = let enough = h.enough in record { K = h.K; moment = h.moment; normal = h.normal; enough = omega (arith, enough, few) }
 
 -- a sync report that is heard was its sender's sync point, in its view
-told_report : (g : Group) (y : ℕ) (r : Record) (K : List Record) → World g (r ∷ K) → r.actor ≡ Replica y → (sender : ℕ) (b : SyncReportBody)
+report_source : (g : Group) (y : ℕ) (r : Record) (K : List Record) → World g (r ∷ K) → r.actor ≡ Replica y → (sender : ℕ) (b : SyncReportBody)
     → heard_by g y r.event ≡ Some (Replica sender, messages.SyncReport b) → HadSynced (logs_of g) b.view sender b.synced K
-told_report g y r K w a sender b heard =
+report_source g y r K w a sender b heard =
     let s = letters.sent_at sender y (messages.SyncReport b) K (letters.was_sent g y r K w a sender (messages.SyncReport b) heard) in
     let now = shown_by g K w.1 (Replica sender) s.record_of s.older (Replica y) (messages.SyncReport b) s.at s.sends.fits s.sends.has in
     let shows : ShowsReport g.f sender (replica_at g sender (s.record_of ∷ s.older)) (Replica y) b = now.shows in
@@ -93,7 +93,7 @@ module _ (g : Group) (J : List Record) where
       by_max is (inr new) = had_fewer g J s.view sender count b.synced (omega (arith, is, new)) had
 
   module _ (y : ℕ) (r : Record) (K : List Record)
-      (told : (sender : ℕ) (b : SyncReportBody) → heard_by g y r.event ≡ Some (Replica sender, messages.SyncReport b)
+      (reported : (sender : ℕ) (b : SyncReportBody) → heard_by g y r.event ≡ Some (Replica sender, messages.SyncReport b)
       → HadSynced (logs_of g) b.view sender b.synced J)
     where
       counts_kept : (s t : ReplicaData) → Outcome g.f y r.event (heard_by g y r.event) s t → AreCounts y s → AreCounts y t
@@ -102,7 +102,7 @@ module _ (g : Group) (J : List Record) where
       counts_kept s _ (Merge sender m u new normal) h = h
       counts_kept s _ (Sync sender b new hears le log changed) h = λ normal led. true_and_false (eqb (leader_of g.f s.view) y) led hears.follows
       counts_kept s _ (Tally sender b is normal led same few) h =
-          tallied y sender b s (subst (λ (v : ℕ). HadSynced (logs_of g) v sender b.synced J) same (told sender b is)) h
+          tallied y sender b s (subst (λ (v : ℕ). HadSynced (logs_of g) v sender b.synced J) same (reported sender b is)) h
       counts_kept s _ (Enter w up later log grown) h = λ normal. absurd cc
       counts_kept s _ (Follow sender m u new w up later) h = λ normal. absurd cc
       counts_kept s _ (Answer sender b new normal same) h = h
@@ -126,7 +126,7 @@ module _ (g : Group) (J : List Record) where
     report_at : (y : ℕ) (r : Record) (K : List Record) → At J (r ∷ K) → r.actor ≡ Replica y → (sender : ℕ) (b : SyncReportBody)
         → heard_by g y r.event ≡ Some (Replica sender, messages.SyncReport b) → HadSynced (logs_of g) b.view sender b.synced J
     report_at y r K at a sender b heard =
-        let had = told_report g y r K (at_world g J (r ∷ K) w at) a sender b heard in
+        let had = report_source g y r K (at_world g J (r ∷ K) w at) a sender b heard in
         record { K = had.K; moment = at_then J K had.K (at_tail J r K at) had.moment; normal = had.normal; enough = had.enough }
 
     -- at each moment

@@ -31,7 +31,7 @@ use Rattle.nz_base.proofs.Moments.{at_then}
 use Rattle.nz_laws_commit.proofs.Places.{EndsAnswered, cut_answered}
 use Rattle.nz_laws_commit.proofs.FactsStay.{facts_stay}
 use Rattle.nz_machine.proofs.shows.SentMessages.{shown}
-use Rattle.nz_laws_commit.proofs.ReadMessages.{IsTold}
+use Rattle.nz_laws_commit.proofs.ReadMessages.{MessageSource}
 
 -- ---- an answer of a leader
 
@@ -93,7 +93,7 @@ pub record IsAnswering (e : Envelope) (v : ℕ) (id : Id) (a : Answer) : Type 0 
   pub answer : body.answer ≡ Some a
 
 -- the log of the reply's sender when it first sent the reply, up to its entry
-pub reply_given : (g : Group) (J K : List Record) (p : Parcel) (e : Envelope) (v : ℕ) (id : Id) (a : Answer) → World g J → IsTold g J K p e
+pub reply_given : (g : Group) (J K : List Record) (p : Parcel) (e : Envelope) (v : ℕ) (id : Id) (a : Answer) → World g J → MessageSource g J K p e
     → IsAnswering e v id a
     → IsGiven g J v id a (cut_after id (log_at g p.from K))
 reply_given g J K p e v id a w t n =

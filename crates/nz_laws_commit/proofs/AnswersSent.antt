@@ -26,7 +26,7 @@ use Rattle.nz_base.proofs.Moments.{at_then}
 use Rattle.nz_machine.specs.runs.Hearing.{heard_at}
 use Rattle.nz_machine.specs.runs.Shows.{ShowsAnswer, Shows}
 use Rattle.nz_machine.proofs.shows.SentMessages.{shown}
-use Rattle.nz_laws_commit.proofs.ReadMessages.{IsTold}
+use Rattle.nz_laws_commit.proofs.ReadMessages.{MessageSource}
 use Rattle.nz_laws_commit.proofs.Answering.{IsGiven, given_later}
 use Rattle.nz_laws_commit.proofs.NotedWereSent.{IsBacked, backed_later}
 use Rattle.nz_laws_commit.proofs.Decisions.{has_decided}
@@ -66,7 +66,7 @@ pub record LeadsBack (g : Group) (J : List Record) (id : Id) (a : Answer) (from 
   pub backed : IsBacked g J id reply source
   pub given : IsGiven g J (view_of reply) id a (prefix_at_source g id source)
 
-pub answer_source : (g : Group) (J K : List Record) (p : Parcel) (e : Envelope) (c : ℕ) (b : AnswerBody) → World g J → IsTold g J K p e
+pub answer_source : (g : Group) (J K : List Record) (p : Parcel) (e : Envelope) (c : ℕ) (b : AnswerBody) → World g J → MessageSource g J K p e
     → IsAnswerOf e c b → LeadsBack g J (id_at c b.num) b.answer p.from K
 answer_source g J K p e c b w t n =
     let q = n.proxy in

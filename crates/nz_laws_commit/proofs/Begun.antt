@@ -13,12 +13,12 @@ use Rattle.nz_base.specs.declared.key.Entry.{Entry}
 use Rattle.nz_base.proofs.Moments.{at_then}
 use Rattle.nz_math.specs.Count.{IsChoice}
 use Rattle.nz_math.specs.Quorum.{group_size}
-use Rattle.nz_merge.specs.declared.change.Change.{Change}
+use Rattle.nz_merge.specs.declared.report.Report.{Report}
 use Rattle.nz_merge.specs.Sender.{senders}
-use Rattle.nz_machine.specs.declared.data.Reported.{Reported}
+use Rattle.nz_machine.specs.declared.data.CollectedReport.{CollectedReport}
 use Rattle.nz_machine.specs.declared.event.Record.{Record}
 use Rattle.nz_machine.specs.rules.State.{Group}
-use Rattle.nz_machine.specs.rules.Begins.{own_change}
+use Rattle.nz_machine.specs.rules.Begins.{own_report}
 use Rattle.nz_machine.specs.runs.World.{Has, World}
 use Rattle.nz_machine.specs.runs.Incarnations.{replica_at}
 use Rattle.nz_machine.specs.runs.Leading.{leader_at, is_led}
@@ -27,7 +27,7 @@ use Rattle.nz_machine.proofs.runs.Moments.{at_world}
 use Rattle.nz_laws_cv.proofs.OutcomeRules.{changing_up}
 use Rattle.nz_laws_cv.proofs.WithinIncarnation.{sound_at}
 use Rattle.nz_laws_cv.proofs.Showing.{shows}
-use Rattle.nz_laws_cv.proofs.Changes.{reporter}
+use Rattle.nz_laws_cv.proofs.Reports.{reporter}
 use Rattle.nz_laws_cv.proofs.Beginnings.{normal_in_is, turning_is, choice_is, full_is}
 use Rattle.nz_laws_cv.proofs.BegunLogs.{IsBegunLog, begun_log_is, report_is_read}
 use Rattle.nz_laws_cv.proofs.Known.{has_views}
@@ -38,13 +38,14 @@ use Rattle.nz_laws_commit.proofs.Instance.{normal_status, up_status, normal_up_s
 
 -- ---- the reports
 
-pub all_reports : (P : Change → Type 0) (xs : List Reported) → ((x : Reported) → Has xs x → P x.change) → AllByRecursion P (map (λ (x : Reported). x.change) xs)
+pub all_reports : (P : Report → Type 0) (xs : List CollectedReport) → ((x : CollectedReport) → Has xs x → P x.report)
+    → AllByRecursion P (map (λ (x : CollectedReport). x.report) xs)
 all_reports P [] each = tt
 all_reports P (x ∷ xs) each = (each x (inl refl), all_reports P xs (λ z has. each z (inr has)))
 
-senders_are : (xs : List Reported) → senders (map (λ (x : Reported). x.change) xs) ≡ map reporter xs
+senders_are : (xs : List CollectedReport) → senders (map (λ (x : CollectedReport). x.report) xs) ≡ map reporter xs
 senders_are [] = refl
-senders_are (x ∷ xs) = ap (λ (ns : List ℕ). x.change.sender ∷ ns) (senders_are xs)
+senders_are (x ∷ xs) = ap (λ (ns : List ℕ). x.report.sender ∷ ns) (senders_are xs)
 
 module _ (g : Group) (J : List Record) (world : World g J) (w : ℕ) (r : Record) (K : List Record) (at : At J (r ∷ K)) (later : 0 < w)
     (led : is_led g w (r ∷ K) ≡ true) (not_led : is_led g w K ≡ false) (begun : begins g w (r ∷ K) ≡ true)
@@ -61,8 +62,8 @@ module _ (g : Group) (J : List Record) (world : World g J) (w : ℕ) (r : Record
     log : IsBegunLog g w r K
     log = begun_log_is g w r K here.1 led not_led
 
-    abbrev changes : List Change
-    changes = own_change l (leader_at g w K) ∷ map (λ (x : Reported). x.change) (leader_at g w B).changes
+    abbrev reports : List Report
+    reports = own_report l (leader_at g w K) ∷ map (λ (x : CollectedReport). x.report) (leader_at g w B).reports
 
     -- a later rejoin of a member ends in no lower view
     no_lower : (x : ℕ) (Q C : List Record) → IsMemberOf g w B x Q → At J C → CompletesRejoin (logs_of g) x C
@@ -73,8 +74,8 @@ module _ (g : Group) (J : List Record) (world : World g J) (w : ℕ) (r : Record
         (has_views g J world).member x w C B Q (record { at = at_c; is = completes_by g J world x C c }) (record { at = at; later = later; is = begun }) member
         (omega (arith, lower, early, late))
 
-    own_report : IsMemberReport (logs_of g) w (own_change l (leader_at g w K)) J
-    own_report =
+    own_member : IsMemberReport (logs_of g) w (own_report l (leader_at g w K)) J
+    own_member =
         let now = normal_in_is w (leader_at g w B) led in
         record {
           q = B;
@@ -91,9 +92,9 @@ module _ (g : Group) (J : List Record) (world : World g J) (w : ℕ) (r : Record
           later = λ C at_c c lower. no_lower l B C (inl (refl, refl)) at_c c lower;
         }
 
-    other_report : (x : Reported) → Has (leader_at g w B).changes x → IsMemberReport (logs_of g) w x.change J
+    other_report : (x : CollectedReport) → Has (leader_at g w B).reports x → IsMemberReport (logs_of g) w x.report J
     other_report x has =
-        let sender = x.change.sender in
+        let sender = x.report.sender in
         let read = report_is_read g w r K here (shows g B here) led not_led x has in
         let Q = read.moment in
         let at_q = at_then J B Q at read.at in
@@ -118,17 +119,17 @@ module _ (g : Group) (J : List Record) (world : World g J) (w : ℕ) (r : Record
 
     pub merge_is : (S : List Key) → keys_of (leader_at g w B).log.entries ≡ S → IsMergeOfReports (logs_of g) w S J
     merge_is S is =
-        let members : senders changes ≡ l ∷ map reporter (leader_at g w B).changes = ap (λ (ns : List ℕ). l ∷ ns) (senders_are (leader_at g w B).changes) in
+        let members : senders reports ≡ l ∷ map reporter (leader_at g w B).reports = ap (λ (ns : List ℕ). l ∷ ns) (senders_are (leader_at g w B).reports) in
         let full = full_is g J w r K here (shows g B here) led not_led in
         let same = ap length members in
-        let long = length-map changes (λ (c : Change). c.sender) in
+        let long = length-map reports (λ (c : Report). c.sender) in
         record {
-          changes = changes;
+          reports = reports;
           merged = sym is ∙ ap keys_of log.entries;
           choice = subst (IsChoice (group_size g.f)) (sym members) (choice_is g J w r K here (shows g B here) led not_led);
           size = omega (arith, full, same, long);
-          reports = All-from_recursion (λ (c : Change). IsMemberReport (logs_of g) w c J) changes
-              (own_report, all_reports (λ (c : Change). IsMemberReport (logs_of g) w c J) (leader_at g w B).changes other_report);
+          members = All-from_recursion (λ (c : Report). IsMemberReport (logs_of g) w c J) reports
+              (own_member, all_reports (λ (c : Report). IsMemberReport (logs_of g) w c J) (leader_at g w B).reports other_report);
         }
 
 -- a view above 0 began with merged reports

@@ -52,12 +52,12 @@ pub record AcceptsAnswer (g : Group) (r : Record) (J : List Record) (id : Id) (a
   pub id_is : id ≡ id_at client body.num
   pub answer_is : answer ≡ body.answer
   pub rest : List ClientEvent
-  pub told : client_events g r.actor r J ≡ Accepted id answer path ∷ rest
+  pub events_are : client_events g r.actor r J ≡ Accepted id answer path ∷ rest
 
-one_told : (b : Bool) (x y : ClientEvent) → Has (cond b (x ∷ []) []) y → (b ≡ true) × (x ≡ y)
-one_told true x y (inl e) = (refl, e)
-one_told true x y (inr h) = absurd h
-one_told false x y h = absurd h
+only_event : (b : Bool) (x y : ClientEvent) → Has (cond b (x ∷ []) []) y → (b ≡ true) × (x ≡ y)
+only_event true x y (inl e) = (refl, e)
+only_event true x y (inr h) = absurd h
+only_event false x y h = absurd h
 
 record IsAcceptance (c : ℕ) (before after : ClientData) (o : Option Envelope) (x : ClientEvent) : Type 0 where
   envelope : Envelope
@@ -70,7 +70,7 @@ record IsAcceptance (c : ℕ) (before after : ClientData) (o : Option Envelope) 
 
 in_message : (c : ℕ) (before after : ClientData) (m : Message) (x : ClientEvent) → Has (accepted_in c before after m) x
     → (b : AnswerBody) × ((m ≡ messages.Answer b) × ((nat_lt before.accepted after.accepted ≡ true) × (Accepted (id_at c b.num) b.answer b.path ≡ x)))
-in_message c before after (messages.Answer b) x h = let t = one_told (nat_lt before.accepted after.accepted) (Accepted (id_at c b.num) b.answer b.path) x h in
+in_message c before after (messages.Answer b) x h = let t = only_event (nat_lt before.accepted after.accepted) (Accepted (id_at c b.num) b.answer b.path) x h in
     (b, (refl, (t.0, t.1)))
 in_message c before after _ x h = absurd h
 
@@ -125,9 +125,9 @@ pub not_accepted : (g : Group) (c : ℕ) (before after : ClientData) (id : Id) (
 not_accepted g c before after id answer path h =
     let t = is_after c (script_of g c) before.sent (after.sent - before.sent) (Accepted id answer path) h in let k = t.is in absurd cc
 
-told_sent_by : (g : Group) (a : Actor) (r : Record) (J : List Record) (id : Id) (command : List ℕ) → r.actor ≡ a
+event_sent_by : (g : Group) (a : Actor) (r : Record) (J : List Record) (id : Id) (command : List ℕ) → r.actor ≡ a
     → Has (client_events g a r J) (Sent id command) → Sends g r J id
-told_sent_by g (Client c) r J id command by h =
+event_sent_by g (Client c) r J id command by h =
     let before = state_after g (Client c) J in
     let after = state_after g (Client c) (r ∷ J) in
     elim (has_split (accepted_by c before after (read_in g (Client c) r.event)) (sent_by c (script_of g c) before after) (Sent id command) h) [
@@ -145,16 +145,16 @@ told_sent_by g (Client c) r J id command by h =
             id_is = sym (same_sent (id_at c t.num) id (script_command (script_of g c) t.num) command t.is);
           }
     ]
-told_sent_by g (Replica m) r J id command by h = absurd h
-told_sent_by g (Proxy p) r J id command by h = absurd h
+event_sent_by g (Replica m) r J id command by h = absurd h
+event_sent_by g (Proxy p) r J id command by h = absurd h
 
-pub told_sent : (g : Group) (r : Record) (J : List Record) (id : Id) (command : List ℕ) → Has (client_events g r.actor r J) (Sent id command)
+pub event_sent : (g : Group) (r : Record) (J : List Record) (id : Id) (command : List ℕ) → Has (client_events g r.actor r J) (Sent id command)
     → Sends g r J id
-told_sent g r J id command h = told_sent_by g r.actor r J id command refl h
+event_sent g r J id command h = event_sent_by g r.actor r J id command refl h
 
-told_accepted_by : (g : Group) (a : Actor) (r : Record) (J : List Record) (id : Id) (answer : Answer) (path : Path) → r.actor ≡ a
+event_accepted_by : (g : Group) (a : Actor) (r : Record) (J : List Record) (id : Id) (answer : Answer) (path : Path) → r.actor ≡ a
     → Has (client_events g a r J) (Accepted id answer path) → AcceptsAnswer g r J id answer path
-told_accepted_by g (Client c) r J id answer path by h =
+event_accepted_by g (Client c) r J id answer path by h =
     let before = state_after g (Client c) J in
     let after = state_after g (Client c) (r ∷ J) in
     let read = read_in g (Client c) r.event in
@@ -173,16 +173,16 @@ told_accepted_by g (Client c) r J id answer path by h =
             id_is = sym same.0;
             answer_is = sym same.1;
             rest = sent_by c (script_of g c) before after;
-            told = ap (λ (y : Actor). client_events g y r J) by ∙ ap (λ (l : List ClientEvent). l ++ sent_by c (script_of g c) before after) t.alone;
+            events_are = ap (λ (y : Actor). client_events g y r J) by ∙ ap (λ (l : List ClientEvent). l ++ sent_by c (script_of g c) before after) t.alone;
           }
       | inr x ↦ absurd (not_accepted g c before after id answer path x)
     ]
-told_accepted_by g (Replica m) r J id answer path by h = absurd h
-told_accepted_by g (Proxy p) r J id answer path by h = absurd h
+event_accepted_by g (Replica m) r J id answer path by h = absurd h
+event_accepted_by g (Proxy p) r J id answer path by h = absurd h
 
-pub told_accepted : (g : Group) (r : Record) (J : List Record) (id : Id) (answer : Answer) (path : Path)
+pub event_accepted : (g : Group) (r : Record) (J : List Record) (id : Id) (answer : Answer) (path : Path)
     → Has (client_events g r.actor r J) (Accepted id answer path) → AcceptsAnswer g r J id answer path
-told_accepted g r J id answer path h = told_accepted_by g r.actor r J id answer path refl h
+event_accepted g r J id answer path h = event_accepted_by g r.actor r J id answer path refl h
 
 -- ---- a client's count of requests
 
@@ -211,7 +211,7 @@ pub sent_once : (g : Group) (J : List Record) (id : Id) (command : List ℕ) →
 sent_once g [] id command h = absurd h
 sent_once g (r ∷ J) id command h = elim (has_split (events g J) (client_events g r.actor r J) (Sent id command) h) [
   | inl x ↦ let old = sent_once g J id command x in let more = (turns g id.client r J).more in omega (arith, old, more)
-  | inr x ↦ let t = told_sent g r J id command x in subst (λ (i : Id). i.num ≤ (state_after g (Client i.client) (r ∷ J)).sent) (sym t.id_is) t.most
+  | inr x ↦ let t = event_sent g r J id command x in subst (λ (i : Id). i.num ≤ (state_after g (Client i.client) (r ∷ J)).sent) (sym t.id_is) t.most
 ]
 
 -- a request that is sent for the first time was not sent before
@@ -226,9 +226,9 @@ not_sent_before g r J id command t h =
 pub record HasSent (c : ℕ) (g : Group) (sent : ℕ) (E : List ClientEvent) : Type 0 where
   pub each : (n : ℕ) → 0 < n → n ≤ sent → Has E (Sent (id_at c n) (script_command (script_of g c) n))
 
-own_told : (g : Group) (c : ℕ) (r : Record) (J : List Record) (n : ℕ) → r.actor ≡ Client c → (state_after g (Client c) J).sent < n
+newly_sent : (g : Group) (c : ℕ) (r : Record) (J : List Record) (n : ℕ) → r.actor ≡ Client c → (state_after g (Client c) J).sent < n
     → n ≤ (state_after g (Client c) (r ∷ J)).sent → Has (client_events g r.actor r J) (Sent (id_at c n) (script_command (script_of g c) n))
-own_told g c r J n by lt le =
+newly_sent g c r J n by lt le =
     let before = state_after g (Client c) J in
     let after = state_after g (Client c) (r ∷ J) in
     let x : ClientEvent = Sent (id_at c n) (script_command (script_of g c) n) in
@@ -240,7 +240,7 @@ own_told g c r J n by lt le =
 last_sent : (g : Group) (c : ℕ) (r : Record) (J : List Record) (n : ℕ) → n ≤ (state_after g (Client c) (r ∷ J)).sent → (state_after g (Client c) J).sent < n
     → Has (client_events g r.actor r J) (Sent (id_at c n) (script_command (script_of g c) n))
 last_sent g c r J n le lt = elim (may_act g (Client c) r J).cases [
-  | inl a ↦ own_told g c r J n a.0 lt le
+  | inl a ↦ newly_sent g c r J n a.0 lt le
   | inr s ↦ let k : (state_after g (Client c) (r ∷ J)).sent ≡ (state_after g (Client c) J).sent = ap (λ (x : ClientData). x.sent) s in absurd
       (omega (arith, k, le, lt))
 ]

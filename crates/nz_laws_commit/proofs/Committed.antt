@@ -19,16 +19,16 @@ use Rattle.nz_base.proofs.Moments.{at_self, at_then, at_tail}
 use Rattle.nz_base.proofs.Names.{same_actor}
 use Rattle.nz_base.proofs.Prefixes.{prefix_same, prefix_then, prefix_take, prefix_map, prefix_length, shorter_prefix, take_of_prefix}
 use Rattle.nz_log.specs.Synced.{Log}
-use Rattle.nz_merge.specs.declared.change.Change.{Change}
+use Rattle.nz_merge.specs.declared.report.Report.{Report}
 use Rattle.nz_merge.proofs.Bases.{is_greatest, within_greatest}
 use Rattle.nz_merge.proofs.Senders.{contains_first}
 use Rattle.nz_msg.specs.declared.message.LogModBody.{LogModBody}
-use Rattle.nz_machine.specs.declared.data.Reported.{Reported}
+use Rattle.nz_machine.specs.declared.data.CollectedReport.{CollectedReport}
 use Rattle.nz_machine.specs.declared.event.Record.{Record}
 use Rattle.nz_machine.specs.rules.Facts.{HasFacts}
 use Rattle.nz_machine.specs.rules.State.{ReplicaData, Group}
 use Rattle.nz_machine.specs.rules.Replicas.{is_normal, is_changing, is_up}
-use Rattle.nz_machine.specs.rules.Begins.{own_change}
+use Rattle.nz_machine.specs.rules.Begins.{own_report}
 use Rattle.nz_machine.specs.rules.LogMods.{commit_point, with_ack, with_commit}
 use Rattle.nz_machine.specs.rules.Vectors.{with_vector}
 use Rattle.nz_machine.specs.runs.World.{Has, World}
@@ -57,7 +57,7 @@ use Rattle.nz_laws_commit.proofs.OneView.{run_laws}
 use Rattle.nz_laws_commit.proofs.Deciding.{slowly}
 use Rattle.nz_laws_commit.proofs.FactsStay.{facts_stay}
 use Rattle.nz_laws_commit.proofs.Instance.{up_status, is_normal_at, normal_at_is, led_by, start_now}
-use Rattle.nz_laws_commit.proofs.OutcomeDoes.{IsToldMod, IsToldLog, told_mod, told_start, told_state, knows_log}
+use Rattle.nz_laws_commit.proofs.OutcomeDoes.{ModSource, LogSource, mod_source, start_source, state_source, knows_log}
 use Rattle.nz_laws_commit.proofs.Begun.{all_reports}
 use Rattle.nz_laws_commit.proofs.Whole.{follows}
 use Rattle.nz_laws_commit.proofs.CommitPoints.{commit_counts}
@@ -106,29 +106,30 @@ module _ (g : Group) (J : List Record) (w : World g J) where
   committed_long : (y : ℕ) (K : List Record) → At J K → length (committed_keys (law_state_at g y K)) ≡ (replica_at g y K).commit
   committed_long y K at = take_long (replica_at g y K).commit (keys_of (replica_at g y K).log.entries) (commit_within y K at)
 
-  -- ---- a leader's log, as it was told
+  -- ---- a leader's log, as it was sent
 
-  module _ (L v : ℕ) (told : List Record) (at : At J told) (leads : L ≡ leader_of g.f v) (normal : is_normal (replica_at g L told).status ≡ true)
-      (view : (replica_at g L told).view ≡ v)
+  module _ (L v : ℕ) (sent_at : List Record) (at : At J sent_at) (leads : L ≡ leader_of g.f v) (normal : is_normal (replica_at g L sent_at).status ≡ true)
+      (view : (replica_at g L sent_at).view ≡ v)
     where
-      leader_normal : IsNormal (logs_of g) (leader_of g.f v) v told
-      leader_normal = subst (λ (z : ℕ). IsNormal (logs_of g) z v told) leads (is_normal_at g L v told normal view)
+      leader_normal : IsNormal (logs_of g) (leader_of g.f v) v sent_at
+      leader_normal = subst (λ (z : ℕ). IsNormal (logs_of g) z v sent_at) leads (is_normal_at g L v sent_at normal view)
 
-      told_is : keys_of (replica_at g L told).log.entries ≡ (logs_of g).lead v told
-      told_is = subst (λ (z : ℕ). keys_of (replica_at g z told).log.entries ≡ (logs_of g).lead v told) (sym leads) (laws.lead_is v told at leader_normal)
+      sent_is : keys_of (replica_at g L sent_at).log.entries ≡ (logs_of g).lead v sent_at
+      sent_is = subst (λ (z : ℕ). keys_of (replica_at g z sent_at).log.entries ≡ (logs_of g).lead v sent_at) (sym leads)
+          (laws.lead_is v sent_at at leader_normal)
 
-      told_led : IsPrefix (keys_of (replica_at g L told).log.entries) ((logs_of g).lead v J)
-      told_led = subst (λ (ks : List Key). IsPrefix ks ((logs_of g).lead v J)) (sym told_is) (laws.lead_grows v told J (at_self J) at)
+      sent_led : IsPrefix (keys_of (replica_at g L sent_at).log.entries) ((logs_of g).lead v J)
+      sent_led = subst (λ (ks : List Key). IsPrefix ks ((logs_of g).lead v J)) (sym sent_is) (laws.lead_grows v sent_at J (at_self J) at)
 
       -- the view's start is in it
-      told_started : 0 < v → (S : List Key) × ((logs_of g).start v J ≡ Some S) × IsPrefix S (keys_of (replica_at g L told).log.entries)
-      told_started some =
-          let up = up_status (replica_at g (leader_of g.f v) told).status
-          (subst (λ (z : ℕ). is_up (replica_at g z told).status ≡ true) leads (normal_up (replica_at g L told).status normal)) in
-          let last = laws.modes (leader_of g.f v) told at leader_normal.status ∙ leader_normal.view in
-          let began = laws.begun (leader_of g.f v) v told at some (record { up = up; last = last }) in
-          let still = laws.start_stays v began.0 told J (at_self J) at began.1 in
-          (began.0, still, subst (IsPrefix began.0) (sym told_is) (laws.starts v began.0 told at began.1))
+      sent_started : 0 < v → (S : List Key) × ((logs_of g).start v J ≡ Some S) × IsPrefix S (keys_of (replica_at g L sent_at).log.entries)
+      sent_started some =
+          let up = up_status (replica_at g (leader_of g.f v) sent_at).status
+          (subst (λ (z : ℕ). is_up (replica_at g z sent_at).status ≡ true) leads (normal_up (replica_at g L sent_at).status normal)) in
+          let last = laws.modes (leader_of g.f v) sent_at at leader_normal.status ∙ leader_normal.view in
+          let began = laws.begun (leader_of g.f v) v sent_at at some (record { up = up; last = last }) in
+          let still = laws.start_stays v began.0 sent_at J (at_self J) at began.1 in
+          (began.0, still, subst (IsPrefix began.0) (sym sent_is) (laws.starts v began.0 sent_at at began.1))
 
   -- ---- the begin of a view
 
@@ -159,7 +160,7 @@ module _ (g : Group) (J : List Record) (w : World g J) where
           laws.start_stays v start_keys B J (at_self J) at (start_now g v r K none led not_led)
 
       -- what is merged of a member is its state before the record
-      record IsReportRead (c : Change) : Type 0 where
+      record IsReportRead (c : Report) : Type 0 where
         moment : List Record
         before : At K moment
         up : is_up (replica_at g c.sender moment).status ≡ true
@@ -167,7 +168,7 @@ module _ (g : Group) (J : List Record) (w : World g J) where
         commit : (replica_at g c.sender moment).commit ≡ c.commit
         entries : (replica_at g c.sender moment).log.entries ≡ c.log
 
-      own_read : IsReportRead (own_change l (leader_at g v K))
+      own_read : IsReportRead (own_report l (leader_at g v K))
       own_read =
           let log = begun_log_is g v r K here.1 led not_led in
           record { moment = K; before = at_self K; up = log.up; last = log.last; commit = refl; entries = refl }
@@ -189,9 +190,9 @@ module _ (g : Group) (J : List Record) (w : World g J) where
         ],
       )
 
-      other_read : (x : Reported) → Has (leader_at g v B).changes x → IsReportRead x.change
+      other_read : (x : CollectedReport) → Has (leader_at g v B).reports x → IsReportRead x.report
       other_read x has =
-          let z = x.change.sender in
+          let z = x.report.sender in
           let read = report_is_read g v r K here (shows g B here) led not_led x has in
           let e = changed_before z read.moment read.at read.changing in
           let same : replica_at g z e.0 ≡ replica_at g z read.moment = sym e.2 in
@@ -207,38 +208,38 @@ module _ (g : Group) (J : List Record) (w : World g J) where
             entries = ap (λ (t : ReplicaData). t.log.entries) same ∙ read.entries;
           }
 
-      abbrev reports : List Change
+      abbrev reports : List Report
       reports = begun_reports g v r K
 
-      report_read : (c : Change) → Contains reports c → IsReportRead c
+      report_read : (c : Report) → Contains reports c → IsReportRead c
       report_read c among =
           All-contains IsReportRead reports c
-          (All-from_recursion IsReportRead reports (own_read, all_reports IsReportRead (leader_at g v B).changes other_read)) among
+          (All-from_recursion IsReportRead reports (own_read, all_reports IsReportRead (leader_at g v B).reports other_read)) among
 
       -- what a member reports to be committed
-      abbrev reported : Change → List Key
+      abbrev reported : Report → List Key
       reported c = take c.commit (keys_of c.log)
 
-      reported_is : (c : Change) (i : IsReportRead c) → committed_keys (law_state_at g c.sender i.moment) ≡ reported c
+      reported_is : (c : Report) (i : IsReportRead c) → committed_keys (law_state_at g c.sender i.moment) ≡ reported c
       reported_is c i = λ k. take (i.commit k) (keys_of (i.entries k))
 
-      reported_support : (c : Change) (i : IsReportRead c) → HasSupport g (replica_at g c.sender i.moment).last (reported c) J
+      reported_support : (c : Report) (i : IsReportRead c) → HasSupport g (replica_at g c.sender i.moment).last (reported c) J
       reported_support c i =
           subst (λ (ks : List Key). HasSupport g (replica_at g c.sender i.moment).last ks J) (reported_is c i) (earlier c.sender i.moment i.before i.up)
 
-      reported_long : (c : Change) (i : IsReportRead c) → length (reported c) ≡ c.commit
+      reported_long : (c : Report) (i : IsReportRead c) → length (reported c) ≡ c.commit
       reported_long c i =
           sym (ap length (reported_is c i)) ∙ committed_long c.sender i.moment (at_then J K i.moment (at_tail J r K at) i.before) ∙ i.commit
 
       -- the view starts with it
-      reported_starts : (c : Change) (i : IsReportRead c) → IsPrefix (reported c) start_keys
+      reported_starts : (c : Report) (i : IsReportRead c) → IsPrefix (reported c) start_keys
       reported_starts c i = support_starts g J laws (replica_at g c.sender i.moment).last v (reported c) start_keys (reported_support c i) i.last started
 
       -- the commit is the greatest that is reported, as far as the log goes
       begins : KeepsCommitted g J (law_state_at g l K) (law_state_at g l B)
       begins =
-          let own = own_change l (leader_at g v K) in
-          let top = is_greatest (λ (c : Change). c.commit) own (map (λ (x : Reported). x.change) (leader_at g v B).changes) in
+          let own = own_report l (leader_at g v K) in
+          let top = is_greatest (λ (c : Report). c.commit) own (map (λ (x : CollectedReport). x.report) (leader_at g v B).reports) in
           let i = report_read top.0 top.1 in
           let commit = (begun_log_is g v r K here.1 led not_led).commit in
           let count = (leader_at g v B).commit in
@@ -255,8 +256,8 @@ module _ (g : Group) (J : List Record) (w : World g J) where
           let earlier_last = i.last in
           let own_starts = reported_starts own own_read in
           let own_long = reported_long own own_read in
-          let own_most = within_greatest (λ (c : Change). c.commit) reports own
-          (contains_first own (map (λ (x : Reported). x.change) (leader_at g v B).changes)) in
+          let own_most = within_greatest (λ (c : Report). c.commit) reports own
+          (contains_first own (map (λ (x : CollectedReport). x.report) (leader_at g v B).reports)) in
           let own_few = prefix_length (reported own) start_keys own_starts in
           record {
             supported = λ up. subst (λ (u : ℕ). HasSupport g u (take count start_keys) J) (sym last)
@@ -315,30 +316,30 @@ module _ (g : Group) (J : List Record) (w : World g J) where
     grown_entries _ Same = same_log
     grown_entries _ (More log normal others more) = more.entries
 
-    -- what a leader had committed when it told its log
-    told_supported : (L v : ℕ) (told : List Record) → At K told → is_normal (replica_at g L told).status ≡ true → (replica_at g L told).view ≡ v
-        → HasSupport g v (committed_keys (law_state_at g L told)) J
-    told_supported L v told there normal view =
-        let last = (sound_at g told (at_world g J told w (at_then J K told before there)) L).normal normal ∙ view in
-        subst (λ (u : ℕ). HasSupport g u (committed_keys (law_state_at g L told)) J) last
-        (earlier L told there (normal_up (replica_at g L told).status normal))
+    -- what a leader had committed when it sent its log
+    sent_supported : (L v : ℕ) (sent_at : List Record) → At K sent_at → is_normal (replica_at g L sent_at).status ≡ true → (replica_at g L sent_at).view ≡ v
+        → HasSupport g v (committed_keys (law_state_at g L sent_at)) J
+    sent_supported L v sent_at there normal view =
+        let last = (sound_at g sent_at (at_world g J sent_at w (at_then J K sent_at before there)) L).normal normal ∙ view in
+        subst (λ (u : ℕ). HasSupport g u (committed_keys (law_state_at g L sent_at)) J) last
+        (earlier L sent_at there (normal_up (replica_at g L sent_at).status normal))
 
     -- ---- a log modification is taken
 
     module _ (sender : ℕ) (b : LogModBody) (leads : sender ≡ leader_of g.f s.view) (same : b.view ≡ s.view) (normal : is_normal s.status ≡ true)
-        (told : IsToldMod g K sender b) (log : Log) (changed : Taken (keys_of (replica_at g sender told.told).log.entries) s.log log)
+        (sent : ModSource g K sender b) (log : Log) (changed : Taken (keys_of (replica_at g sender sent.sent_at).log.entries) s.log log)
       where
-        there : At J told.told
-        there = at_then J K told.told before told.moment
+        there : At J sent.sent_at
+        there = at_then J K sent.sent_at before sent.moment
 
         abbrev lead : List Key
         lead = (logs_of g).lead s.view J
 
-        abbrev told_keys : List Key
-        told_keys = keys_of (replica_at g sender told.told).log.entries
+        abbrev sent_keys : List Key
+        sent_keys = keys_of (replica_at g sender sent.sent_at).log.entries
 
-        in_lead : IsPrefix told_keys lead
-        in_lead = told_led sender s.view told.told there leads told.normal (told.view ∙ same)
+        in_lead : IsPrefix sent_keys lead
+        in_lead = sent_led sender s.view sent.sent_at there leads sent.normal (sent.view ∙ same)
 
         -- what is synced then is the leader's
         part : IsPrefix (take log.synced (keys_of log.entries)) lead
@@ -357,19 +358,19 @@ module _ (g : Group) (J : List Record) (w : World g J) where
 
         -- what the leader had committed, as far as it is synced
         taken : (n : ℕ) → n ≤ b.commit → n ≤ log.synced → HasSupport g s.last (take n (keys_of log.entries)) J
-        taken n told_low low =
-            let theirs = told_supported sender s.view told.told told.moment told.normal (told.view ∙ same) in
+        taken n sent_low low =
+            let theirs = sent_supported sender s.view sent.sent_at sent.moment sent.normal (sent.view ∙ same) in
             let Q = take n (keys_of log.entries) in
             let in_part = take_within n log.synced (keys_of log.entries) low in
-            let long = committed_long sender told.told there in
+            let long = committed_long sender sent.sent_at there in
             let short = length-take n (keys_of log.entries) in
-            let commit = told.commit in
-            let first = shorter_prefix Q (committed_keys (law_state_at g sender told.told)) lead
+            let commit = sent.commit in
+            let first = shorter_prefix Q (committed_keys (law_state_at g sender sent.sent_at)) lead
             (prefix_then Q (take log.synced (keys_of log.entries)) lead in_part part)
-            (prefix_then (committed_keys (law_state_at g sender told.told)) told_keys lead (prefix_take _ told_keys) in_lead)
-            (omega (arith, long, short, commit, told_low)) in
+            (prefix_then (committed_keys (law_state_at g sender sent.sent_at)) sent_keys lead (prefix_take _ sent_keys) in_lead)
+            (omega (arith, long, short, commit, sent_low)) in
             subst (λ (v : ℕ). HasSupport g v Q J) (sym (sound.normal normal))
-            (support_shorter g J laws s.view Q (committed_keys (law_state_at g sender told.told)) first theirs)
+            (support_shorter g J laws s.view Q (committed_keys (law_state_at g sender sent.sent_at)) first theirs)
 
         abbrev count : ℕ
         count = max s.commit (min b.commit log.synced)
@@ -419,8 +420,8 @@ module _ (g : Group) (J : List Record) (w : World g J) where
             → (z ≡ leader_of g.f s.view) ⊎ HadSynced (logs_of g) s.view z (length (take point keys)) J
         member_had more z test = elim (or_cases (eqb y z) (nat_le point (slice_index after.ack z)) test) [
           | inl mine ↦ inl (sym (eqb-true y z mine) ∙ leads)
-          | inr told ↦
-              let enough = leb-true point (slice_index after.ack z) told in
+          | inr has_acked ↦
+              let enough = leb-true point (slice_index after.ack z) has_acked in
               let short = length-take point keys in
               inr (had_fewer g J s.view z (length (take point keys)) (slice_index after.ack z) (omega (arith, short, enough))
               (counts normal led z (omega (arith, more, enough))))
@@ -453,23 +454,23 @@ module _ (g : Group) (J : List Record) (w : World g J) where
 
     -- ---- a leader's log is taken
 
-    module _ (L v : ℕ) (list : List Entry) (count : ℕ) (leads : L ≡ leader_of g.f v) (told : IsToldLog g K L v list count) where
-      moment_at : At J told.told
-      moment_at = at_then J K told.told before told.moment
+    module _ (L v : ℕ) (list : List Entry) (count : ℕ) (leads : L ≡ leader_of g.f v) (sent : LogSource g K L v list count) where
+      moment_at : At J sent.sent_at
+      moment_at = at_then J K sent.sent_at before sent.moment
 
       -- what the leader had committed
       theirs : HasSupport g v (take count (keys_of list)) J
       theirs =
-          let is : committed_keys (law_state_at g L told.told) ≡ take count (keys_of list) = λ i. take (told.commit i) (keys_of (told.entries i)) in
-          subst (λ (ks : List Key). HasSupport g v ks J) is (told_supported L v told.told told.moment told.normal told.view)
+          let is : committed_keys (law_state_at g L sent.sent_at) ≡ take count (keys_of list) = λ i. take (sent.commit i) (keys_of (sent.entries i)) in
+          subst (λ (ks : List Key). HasSupport g v ks J) is (sent_supported L v sent.sent_at sent.moment sent.normal sent.view)
 
       module _ (up : is_up s.status ≡ true) (later : s.last < v) where
         -- what was committed in an earlier view is in the start of this one
         own_in : IsPrefix (committed_keys s) (keys_of list)
         own_in =
-            let began = told_started L v told.told moment_at leads told.normal told.view (omega (arith, later)) in
+            let began = sent_started L v sent.sent_at moment_at leads sent.normal sent.view (omega (arith, later)) in
             let S = began.0 in
-            let in_log : IsPrefix S (keys_of list) = subst (λ (l : List Entry). IsPrefix S (keys_of l)) told.entries began.2 in
+            let in_log : IsPrefix S (keys_of list) = subst (λ (l : List Entry). IsPrefix S (keys_of l)) sent.entries began.2 in
             prefix_then (committed_keys s) S (keys_of list) (support_starts g J laws s.last v (committed_keys s) S (old up) later began.1) in_log
 
         own_long : length (committed_keys s) ≡ s.commit
@@ -511,14 +512,14 @@ module _ (g : Group) (J : List Record) (w : World g J) where
     -- ---- each outcome
 
     mod_taken : (sender : ℕ) (b : LogModBody) (log : Log) → HearsLeader g.f y s.status s.view sender b.view → Modifies b s.log log
-        → IsToldMod g K sender b → (t : ReplicaData) → t.last ≡ s.last
+        → ModSource g K sender b → (t : ReplicaData) → t.last ≡ s.last
         → committed_keys t ≡ take (max s.commit (min b.commit log.synced)) (keys_of log.entries) → Keeps t
-    mod_taken sender b log hears changed told t last is =
-        let taken = changed.taken (knows_log g y K world.1).sound (keys_of (replica_at g sender told.told).log.entries) told.keys in
-        modified sender b (hears.leader ∙ ap (leader_of g.f) hears.same) hears.same hears.normal told log taken t last is
+    mod_taken sender b log hears changed sent t last is =
+        let taken = changed.taken (knows_log g y K world.1).sound (keys_of (replica_at g sender sent.sent_at).log.entries) sent.keys in
+        modified sender b (hears.leader ∙ ap (leader_of g.f) hears.same) hears.same hears.normal sent log taken t last is
 
     -- the view begins with this record
-    begins_here : (v : ℕ) (base : List Reported) (u : List ℕ) → leader_of g.f v ≡ y → is_up s.status ≡ true → Base (with_vector y s u) v base
+    begins_here : (v : ℕ) (base : List CollectedReport) (u : List ℕ) → leader_of g.f v ≡ y → is_up s.status ≡ true → Base (with_vector y s u) v base
         → is_normal (replica_at g y (r ∷ K)).status ≡ true → (replica_at g y (r ∷ K)).view ≡ v → Keeps (law_state_at g y (r ∷ K))
     begins_here v base u leads up on normal view =
         let low = collects_low g.f y r.event (heard_by g y r.event) (hears_fit g y r.event) s v u base sound up on in
@@ -538,7 +539,7 @@ module _ (g : Group) (J : List Record) (w : World g J) where
     outcome_keeps _ Stays is = grown _ refl refl (λ up. up) same_log
     outcome_keeps _ (Release log normal more) is = grown _ refl refl (λ up. up) more.entries
     outcome_keeps _ (Merge sender m u new normal) is = grown _ refl refl (λ up. up) same_log
-    outcome_keeps _ (Sync sender b new hears le log changed) is = mod_taken sender b log hears changed (told_mod g y r K world a sender b new.is) _ refl refl
+    outcome_keeps _ (Sync sender b new hears le log changed) is = mod_taken sender b log hears changed (mod_source g y r K world a sender b new.is) _ refl refl
     outcome_keeps _ (Tally sender b heard normal led same low) is =
         tallies sender b.synced normal led (subst (AreCounts g J y) is (counts_at g J w y (r ∷ K) at))
     outcome_keeps _ (Enter v up later log more) is = grown _ refl refl (λ _. up) (grown_entries log more)
@@ -549,7 +550,7 @@ module _ (g : Group) (J : List Record) (w : World g J) where
         subst Keeps is (begins_here b.view base b.vector may.leads may.up on (ap (λ (x : ReplicaData). is_normal x.status) is)
         (ap (λ (x : ReplicaData). x.view) is))
     outcome_keeps _ (Start sender b new may) is =
-        adopts sender b.view b.entries b.commit may.leader (told_start g y r K world a sender b new.is) may.up
+        adopts sender b.view b.entries b.commit may.leader (start_source g y r K world a sender b new.is) may.up
         (starts_low g.f s sender b.view sound may) _ refl refl
     outcome_keeps _ (Fall e) is = away _ (λ up. cc)
     outcome_keeps _ (Wake nonce e down) is = away _ (λ up. cc)
@@ -559,7 +560,7 @@ module _ (g : Group) (J : List Record) (w : World g J) where
     outcome_keeps _ (Forget sender b new ours) is = away _ (λ up. up_no_rejoin s.status up ours.rejoining)
     outcome_keeps _ (AskLog sender b new ours many) is = away _ (λ up. up_no_rejoin s.status up ours.rejoining)
     outcome_keeps _ (Return sender b new ours late leader) is = record {
-      supported = λ up. theirs sender b.view b.entries b.commit leader (told_state g y r K world a sender b new.is);
+      supported = λ up. theirs sender b.view b.entries b.commit leader (state_source g y r K world a sender b new.is);
       extends = λ was up. up_no_rejoin s.status was ours.rejoining;
     }
     outcome_keeps _ (Back rejoining phase) is = away _ (λ up. up_no_rejoin s.status up rejoining)

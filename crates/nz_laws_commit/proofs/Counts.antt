@@ -28,7 +28,7 @@ use Rattle.nz_machine.specs.runs.OneHistory.{Precedes}
 use Rattle.nz_machine.proofs.runs.Runs.{acts_itself, has_left, has_right, has_split}
 use Rattle.nz_machine.proofs.journals.InTurn.{InTurn, open_within, answer_takes}
 use Rattle.nz_laws_commit.specs.Once.{AreOnce}
-use Rattle.nz_laws_commit.proofs.ClientEvents.{AcceptsAnswer, told_sent, told_accepted, same_sent, not_sent, not_accepted}
+use Rattle.nz_laws_commit.proofs.ClientEvents.{AcceptsAnswer, event_sent, event_accepted, same_sent, not_sent, not_accepted}
 use Rattle.nz_laws_commit.proofs.ClientEvents.{is_after, not_sent_before, has_sent, in_turn, turns}
 use Rattle.nz_laws_commit.proofs.Opened.{few_open}
 
@@ -121,7 +121,7 @@ accepted_closed g (r ∷ J) id a p h = elim (has_split (events g J) (client_even
       let more = k.more in
       record { sent = omega (arith, before, more); closed = k.closed id.num old.sent old.closed }
   | inr x ↦
-      let t = told_accepted g r J id a p x in
+      let t = event_accepted g r J id a p x in
       let within = (accept_within g r J id a p t).1 in
       let more = (turns g t.client r J).more in
       subst (λ (i : Id). IsClosed i.num (state_after g (Client i.client) (r ∷ J))) (sym t.id_is)
@@ -162,9 +162,9 @@ record AreSent (g : Group) (a : Actor) (r : Record) (J : List Record) (x y : Cli
   by : a ≡ Client client
   both : Precedes (sent_by client (script_of g client) (state_after g (Client client) J) (state_after g (Client client) (r ∷ J))) x y
 
-pair_told : (g : Group) (a : Actor) (r : Record) (J : List Record) (x y : ClientEvent)
+pair_of_events : (g : Group) (a : Actor) (r : Record) (J : List Record) (x y : ClientEvent)
     → Precedes (client_events g a r J) x y → IsPair g a r J x y ⊎ AreSent g a r J x y
-pair_told g (Client c) r J x y h =
+pair_of_events g (Client c) r J x y h =
     let before = state_after g (Client c) J in
     let after = state_after g (Client c) (r ∷ J) in
     elim (precedes_three (accepted_by c before after (read_in g (Client c) r.event)) (sent_by c (script_of g c) before after) x y h) [
@@ -172,8 +172,8 @@ pair_told g (Client c) r J x y h =
       | inr (inl k) ↦ inl (record { client = c; by = refl; first = k.0; second = k.1 })
       | inr (inr k) ↦ inr (record { client = c; by = refl; both = k })
     ]
-pair_told g (Replica m) r J x y h = absurd h
-pair_told g (Proxy p) r J x y h = absurd h
+pair_of_events g (Replica m) r J x y h = absurd h
+pair_of_events g (Proxy p) r J x y h = absurd h
 
 -- the requests of one record have rising numbers
 sent_rising : (c : ℕ) (script : List Request) (n more : ℕ) (a b : Id) (x y : List ℕ)
@@ -193,8 +193,8 @@ sent_twice : (g : Group) (r : Record) (J : List Record) (id : Id) (x y : List �
     → Precedes (events g (r ∷ J)) (Sent id x) (Sent id y) → ⊥
 sent_twice g r J id x y old h = elim (precedes_three (events g J) (client_events g r.actor r J) (Sent id x) (Sent id y) h) [
   | inl k ↦ old.sent id x y k
-  | inr (inl k) ↦ not_sent_before g r J id x (told_sent g r J id y k.1) k.0
-  | inr (inr k) ↦ elim (pair_told g r.actor r J (Sent id x) (Sent id y) k) [
+  | inr (inl k) ↦ not_sent_before g r J id x (event_sent g r J id y k.1) k.0
+  | inr (inr k) ↦ elim (pair_of_events g r.actor r J (Sent id x) (Sent id y) k) [
     | inl t ↦ not_sent t.client (state_after g (Client t.client) J) (state_after g (Client t.client) (r ∷ J)) (read_in g (Client t.client) r.event) id x t.first
     | inr t ↦
         let s = state_after g (Client t.client) J in
@@ -208,8 +208,8 @@ accepted_twice : (g : Group) (r : Record) (J : List Record) (id : Id) (a b : Ans
     → Precedes (events g (r ∷ J)) (Accepted id a p) (Accepted id b q) → ⊥
 accepted_twice g r J id a b p q old h = elim (precedes_three (events g J) (client_events g r.actor r J) (Accepted id a p) (Accepted id b q) h) [
   | inl k ↦ old.accepted id a b p q k
-  | inr (inl k) ↦ not_accepted_before g r J id a b p q (told_accepted g r J id b q k.1) k.0
-  | inr (inr k) ↦ elim (pair_told g r.actor r J (Accepted id a p) (Accepted id b q) k) [
+  | inr (inl k) ↦ not_accepted_before g r J id a b p q (event_accepted g r J id b q k.1) k.0
+  | inr (inr k) ↦ elim (pair_of_events g r.actor r J (Accepted id a p) (Accepted id b q) k) [
     | inl t ↦ not_accepted g t.client (state_after g (Client t.client) J) (state_after g (Client t.client) (r ∷ J)) id b q t.second
     | inr t ↦
         let s = state_after g (Client t.client) J in
@@ -233,7 +233,9 @@ accepted_after g r J id a p old h =
     let more = client_events g r.actor r J in
     elim (has_split (events g J) more (Accepted id a p) h) [
       | inl k ↦ let t = old.in_order id a p k in (t.0, precedes_left (events g J) more (Sent id t.0) (Accepted id a p) t.1)
-      | inr k ↦ let t = sent_first g r J id a p (told_accepted g r J id a p k) in (t.0, precedes_across (events g J) more (Sent id t.0) (Accepted id a p) t.1 k)
+      | inr k ↦
+          let t = sent_first g r J id a p (event_accepted g r J id a p k) in
+          (t.0, precedes_across (events g J) more (Sent id t.0) (Accepted id a p) t.1 k)
     ]
 
 pub are_once : (g : Group) (J : List Record) → AreOnce g.window (events g J)

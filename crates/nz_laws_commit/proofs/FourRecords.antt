@@ -14,7 +14,7 @@ use Rattle.nz_base.specs.Moments.{At}
 use Rattle.nz_base.specs.Prefixes.{IsPrefix}
 use Rattle.nz_base.proofs.Prefixes.{prefix_self, prefix_none, prefix_then}
 use Rattle.nz_math.proofs.Twos.{of_two, two_choice}
-use Rattle.nz_merge.specs.declared.change.Change.{Change}
+use Rattle.nz_merge.specs.declared.report.Report.{Report}
 use Rattle.nz_merge.specs.Merged.{merged, later_keys}
 use Rattle.nz_laws_commit.specs.States.{Normal, ViewChange, LogState, place}
 use Rattle.nz_laws_commit.specs.Supports.{IsNormal, HadSynced, Support}
@@ -116,12 +116,12 @@ does_second (suc zero) h = Synced (record {
   view = refl;
   last = refl;
   follows = λ e. absurd (omega (arith, e));
-  told = First ∷ [];
+  sent_at = First ∷ [];
   moment = inl refl;
   leader = record { status = refl; view = refl };
   synced = omega arith;
   entries = refl;
-  modified = λ lead prefix told. record { part = told; prefixes = λ P p either. prefix_then P [] (key ∷ []) p (prefix_none (key ∷ [])) };
+  modified = λ lead prefix led. record { part = led; prefixes = λ P p either. prefix_then P [] (key ∷ []) p (prefix_none (key ∷ [])) };
 })
 does_second (suc (suc y)) h = absurd cc
 
@@ -194,13 +194,13 @@ no_start v (r ∷ K) high =
 
 -- ---- what was merged
 
-abbrev first_change : Change
-first_change = record { sender = 1; last = 0; synced = 1; commit = 0; log = entry ∷ [] }
+abbrev first_report : Report
+first_report = record { sender = 1; last = 0; synced = 1; commit = 0; log = entry ∷ [] }
 
-abbrev second_change : Change
-second_change = record { sender = 2; last = 0; synced = 0; commit = 0; log = [] }
+abbrev second_report : Report
+second_report = record { sender = 2; last = 0; synced = 0; commit = 0; log = [] }
 
-report_first : IsMemberReport (machine_of group) 1 first_change run
+report_first : IsMemberReport (machine_of group) 1 first_report run
 report_first = record {
   q = run;
   moment = inl refl;
@@ -216,7 +216,7 @@ report_first = record {
   later = λ C at completes less. absurd (let z = inc_zero 1 C in omega (arith, less, z));
 }
 
-report_second : IsMemberReport (machine_of group) 1 second_change run
+report_second : IsMemberReport (machine_of group) 1 second_report run
 report_second = record {
   q = early;
   moment = inr (inl refl);
@@ -232,21 +232,21 @@ report_second = record {
   later = λ C at completes less. absurd (let z = inc_zero 2 C in omega (arith, less, z));
 }
 
-reports : All (λ (c : Change). IsMemberReport (machine_of group) 1 c run) (first_change ∷ second_change ∷ [])
-reports =
-    All-from_recursion (λ (c : Change). IsMemberReport (machine_of group) 1 c run) (first_change ∷ second_change ∷ []) (report_first, (report_second, tt))
+members : All (λ (c : Report). IsMemberReport (machine_of group) 1 c run) (first_report ∷ second_report ∷ [])
+members =
+    All-from_recursion (λ (c : Report). IsMemberReport (machine_of group) 1 c run) (first_report ∷ second_report ∷ []) (report_first, (report_second, tt))
 
-merged_is : key ∷ [] ≡ keys_of (merged 1 (first_change ∷ second_change ∷ []))
+merged_is : key ∷ [] ≡ keys_of (merged 1 (first_report ∷ second_report ∷ []))
 unfolding merged later_keys
 merged_is = refl
 
 begun_one : IsMergeOfReports (machine_of group) 1 (key ∷ []) run
 begun_one = record {
-  changes = first_change ∷ second_change ∷ [];
+  reports = first_report ∷ second_report ∷ [];
   merged = merged_is;
   choice = two_choice 3 1 2 (omega arith) (omega arith) (λ e. cc);
   size = omega arith;
-  reports = reports;
+  members = members;
 }
 
 begins : (w : ℕ) (S : List Key) → 0 < w → start_of group w run ≡ Some S → IsMergeOfReports (machine_of group) w S run

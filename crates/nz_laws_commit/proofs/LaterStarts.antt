@@ -13,8 +13,8 @@ use Rattle.nz_base.proofs.Moments.{at_self, at_then}
 use Rattle.nz_base.proofs.Prefixes.{prefix_then, prefix_take, shorter_prefix, both_prefixes, comparable_back}
 use Rattle.nz_math.specs.Count.{is_in}
 use Rattle.nz_math.proofs.Upto.{upto}
-use Rattle.nz_merge.specs.declared.change.Change.{Change}
-use Rattle.nz_merge.specs.Merged.{AreFit, IsFit, changes_kept, merged_synced_part, merged}
+use Rattle.nz_merge.specs.declared.report.Report.{Report}
+use Rattle.nz_merge.specs.Merged.{AreFit, IsFit, latest_reports, merged_synced_part, merged}
 use Rattle.nz_merge.proofs.Senders.{slow_member}
 use Rattle.nz_merge.proofs.Bases.{last_of, IsBase, within_greatest, base_of, synced_stays, fast_count, fast_stays}
 use Rattle.nz_laws_commit.specs.States.{Machine}
@@ -30,23 +30,23 @@ module _ {R : Type 0} (M : Machine R) (J : List R) (h : RunLaws M J) (v : ℕ) (
   was_in y u (inr over) = (over.K, at_then J (over.r ∷ over.K) over.K over.moment (inr (at_self over.K)), over.normal)
 
   module _ (w : ℕ) (lt : v < w) (S : List Key) (start : M.start w J ≡ Some S) (b : IsMergeOfReports M w S J) where
-    report : (c : Change) → Contains b.changes c → IsMemberReport M w c J
-    report c among = All-contains (λ (d : Change). IsMemberReport M w d J) b.changes c b.reports among
+    report : (c : Report) → Contains b.reports c → IsMemberReport M w c J
+    report c among = All-contains (λ (d : Report). IsMemberReport M w d J) b.reports c b.members among
 
-    fit : AreFit b.changes
+    fit : AreFit b.reports
     fit =
-        let each = All-weaker (λ (c : Change). IsMemberReport M w c J) IsFit (λ c r. reports.report_fit M J h w v lt c r) b.changes b.reports in
-        recursion_from_All IsFit b.changes each
+        let each = All-weaker (λ (c : Report). IsMemberReport M w c J) IsFit (λ c r. reports.report_fit M J h w v lt c r) b.reports b.members in
+        recursion_from_All IsFit b.reports each
 
     -- the synced part that is merged, and the greatest last view
     abbrev base_keys : List Key
-    base_keys = keys_of (merged_synced_part (changes_kept b.changes))
+    base_keys = keys_of (merged_synced_part (latest_reports b.reports))
 
     abbrev greatest_last : ℕ
-    greatest_last = last_of b.changes
+    greatest_last = last_of b.reports
 
-    base : IsBase b.changes
-    base = base_of b.changes (let size = b.size in omega (arith, size))
+    base : IsBase b.reports
+    base = base_of b.reports (let size = b.size in omega (arith, size))
 
     base_report : IsMemberReport M w base.c J
     base_report = report base.c base.among
@@ -65,14 +65,14 @@ module _ {R : Type 0} (M : Machine R) (J : List R) (h : RunLaws M J) (v : ℕ) (
         ap length base.is ∙ length-take-le base.c.synced (keys_of base.c.log) (omega (arith, sound, keys))
 
     -- the reports of who was Normal in v are of no lower view
-    pub reaches : (c : Change) → Contains b.changes c → (K : List R) × At J K × IsNormal M c.sender v K → v ≤ c.last
+    pub reaches : (c : Report) → Contains b.reports c → (K : List R) × At J K × IsNormal M c.sender v K → v ≤ c.last
     reaches c among n = reports.last_after M J h w v lt c (report c among) n.0 n.1 n.2
 
-    within : (c : Change) → Contains b.changes c → c.last ≤ greatest_last
-    within c among = within_greatest (λ (d : Change). d.last) b.changes c among
+    within : (c : Report) → Contains b.reports c → c.last ≤ greatest_last
+    within c among = within_greatest (λ (d : Report). d.last) b.reports c among
 
     -- case 1: the greatest last view is above v, and began with P
-    above : v < greatest_last → ((T : List Key) → M.start greatest_last J ≡ Some T → IsPrefix P T) → IsPrefix P (keys_of (merged M.f b.changes))
+    above : v < greatest_last → ((T : List Key) → M.start greatest_last J ≡ Some T → IsPrefix P T) → IsPrefix P (keys_of (merged M.f b.reports))
     above more ih =
         let last = base.last in
         let started = reports.report_started M J h w v lt base.c base_report (omega (arith, last, more)) in
@@ -81,12 +81,12 @@ module _ {R : Type 0} (M : Machine R) (J : List R) (h : RunLaws M J) (v : ℕ) (
         let T_lead : IsPrefix T (M.lead greatest_last J) = subst (λ (g : ℕ). IsPrefix T (M.lead g J)) last started.3 in
         let few = started.2 in
         let T_base = shorter_prefix T base_keys (M.lead greatest_last J) T_lead base_lead (omega (arith, few, base_long)) in
-        synced_stays M.f b.changes P (prefix_then P T base_keys in_T T_base)
+        synced_stays M.f b.reports P (prefix_then P T base_keys in_T T_base)
 
     -- case 2: a slow quorum, and the greatest last view is v
-    slow : greatest_last ≡ v → SlowSupport M v P J → IsPrefix P (keys_of (merged M.f b.changes))
+    slow : greatest_last ≡ v → SlowSupport M v P J → IsPrefix P (keys_of (merged M.f b.reports))
     slow same q =
-        let shared = slow_member M.f q.members b.changes q.choice q.enough b.choice b.size in
+        let shared = slow_member M.f q.members b.reports q.choice q.enough b.choice b.size in
         let c = shared.0 in
         let had = q.each c.sender shared.2 in
         let low = reaches c shared.1 (had.K, had.moment, had.normal) in
@@ -94,17 +94,17 @@ module _ {R : Type 0} (M : Machine R) (J : List R) (h : RunLaws M J) (v : ℕ) (
         let held = reports.had_held M J h w v lt c (report c shared.1) (length P) had (omega (arith, low, high, same)) in
         let most = base.most c shared.1 (omega (arith, low, high, same)) in
         let lead = subst (λ (g : ℕ). IsPrefix base_keys (M.lead g J)) same base_lead in
-        synced_stays M.f b.changes P (shorter_prefix P base_keys (M.lead v J) s.lead lead (omega (arith, held, most, base_long)))
+        synced_stays M.f b.reports P (shorter_prefix P base_keys (M.lead v J) s.lead lead (omega (arith, held, most, base_long)))
 
     -- case 3: a fast quorum
-    fast : greatest_last ≡ v → FastSupport M v P J → IsPrefix P (keys_of (merged M.f b.changes))
+    fast : greatest_last ≡ v → FastSupport M v P J → IsPrefix P (keys_of (merged M.f b.reports))
     fast same q =
-        let changes = b.changes in
+        let reports = b.reports in
         let lead : IsPrefix base_keys (M.lead v J) = subst (λ (g : ℕ). IsPrefix base_keys (M.lead g J)) same base_lead in
-        let enough = fast_count M.f q.members changes P q.choice q.enough b.choice b.size (λ c among member. holds c among (q.each c.sender member)) in
-        fast_stays M.f changes P fit b.size enough (both_prefixes P base_keys (M.lead v J) s.lead lead)
+        let enough = fast_count M.f q.members reports P q.choice q.enough b.choice b.size (λ c among member. holds c among (q.each c.sender member)) in
+        fast_stays M.f reports P fit b.size enough (both_prefixes P base_keys (M.lead v J) s.lead lead)
       where
-        held : (c : Change) (among : Contains b.changes c) → c.last ≡ v → HadSynced M v c.sender (length P) J ⊎ FastReplied M v c.sender P q.u J
+        held : (c : Report) (among : Contains b.reports c) → c.last ≡ v → HadSynced M v c.sender (length P) J ⊎ FastReplied M v c.sender P q.u J
             → IsPrefix P (keys_of c.log)
         held c among e (inr over) = reports.fast_held M J h w v lt c (report c among) P q.u q.K over q.moment q.normal q.vector q.long s.lead e
         held c among e (inl had) =
@@ -117,7 +117,7 @@ module _ {R : Type 0} (M : Machine R) (J : List R) (h : RunLaws M J) (v : ℕ) (
             let part = subst (λ (g : ℕ). IsPrefix (take c.synced (keys_of c.log)) (M.lead g J)) e (reports.report_synced M J h w v lt c from) in
             prefix_then P T (keys_of c.log) (shorter_prefix P T (M.lead v J) s.lead part (omega (arith, count, long))) (prefix_take c.synced (keys_of c.log))
 
-        holds : (c : Change) → Contains b.changes c → HadSynced M v c.sender (length P) J ⊎ FastReplied M v c.sender P q.u J
+        holds : (c : Report) → Contains b.reports c → HadSynced M v c.sender (length P) J ⊎ FastReplied M v c.sender P q.u J
             → (c.last ≡ greatest_last) × IsPrefix P (keys_of c.log)
         holds c among support =
             let low = reaches c among (was_in c.sender q.u support) in
@@ -129,20 +129,20 @@ module _ {R : Type 0} (M : Machine R) (J : List R) (h : RunLaws M J) (v : ℕ) (
     not_below : v ≤ greatest_last
     not_below = elim s.quorum [
       | inl q ↦
-          let shared = slow_member M.f q.members b.changes q.choice q.enough b.choice b.size in
+          let shared = slow_member M.f q.members b.reports q.choice q.enough b.choice b.size in
           let had = q.each shared.0.sender shared.2 in
           let low = reaches shared.0 shared.1 (had.K, had.moment, had.normal) in
           let high = within shared.0 shared.1 in
           omega (arith, low, high)
       | inr q ↦
           let enough = q.enough in
-          let shared = slow_member M.f q.members b.changes q.choice (omega (arith, enough)) b.choice b.size in
+          let shared = slow_member M.f q.members b.reports q.choice (omega (arith, enough)) b.choice b.size in
           let low = reaches shared.0 shared.1 (was_in shared.0.sender q.u (q.each shared.0.sender shared.2)) in
           let high = within shared.0 shared.1 in
           omega (arith, low, high)
     ]
 
-    merged_has : ((g : ℕ) → g < w → (T : List Key) → v < g → M.start g J ≡ Some T → IsPrefix P T) → IsPrefix P (keys_of (merged M.f b.changes))
+    merged_has : ((g : ℕ) → g < w → (T : List Key) → v < g → M.start g J ≡ Some T → IsPrefix P T) → IsPrefix P (keys_of (merged M.f b.reports))
     merged_has ih =
         let low = base_report.low in
         let last = base.last in

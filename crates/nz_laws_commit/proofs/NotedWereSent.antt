@@ -30,7 +30,7 @@ use Rattle.nz_machine.specs.runs.Shows.{ShowsFast, ShowsSlow, Shows}
 use Rattle.nz_machine.specs.runs.Incarnations.{replica_at}
 use Rattle.nz_machine.proofs.runs.Moments.{at_world}
 use Rattle.nz_machine.proofs.shows.SentMessages.{shown}
-use Rattle.nz_laws_commit.proofs.ReadMessages.{IsTold}
+use Rattle.nz_laws_commit.proofs.ReadMessages.{MessageSource}
 use Rattle.nz_machine.proofs.facts.Choices.{HasQuorum}
 
 -- a fast reply to the request, by the newest record of K
@@ -109,7 +109,7 @@ record SendsAs (g : Group) (J K : List Record) (m : ℕ) (to : Actor) (message :
   fits : Fits message
   shows : Shows g (Replica m) (heard_at g (Replica m) newest.event) (replica_at g m older) (replica_at g m (newest ∷ older)) to message
 
-sends_as : (g : Group) (J K : List Record) (p : Parcel) (e : Envelope) (m : ℕ) (message : Message) → World g J → IsTold g J K p e → e.from ≡ Replica m
+sends_as : (g : Group) (J K : List Record) (p : Parcel) (e : Envelope) (m : ℕ) (message : Message) → World g J → MessageSource g J K p e → e.from ≡ Replica m
     → e.message ≡ message → SendsAs g J K m e.to message
 sends_as g J K p e m message w t from is =
     let moment = t.newest ∷ t.older in
@@ -145,7 +145,7 @@ over_now g J K id m to b same s =
     reply_later g J moment keys s.at (inl one)
 
 pub said_by : (g : Group) (J K : List Record) (p : Parcel) (e : Envelope) (from : Actor) (message : Message) (id : Id) (reply : Reply) → World g J
-    → IsTold g J K p e → e.from ≡ from → e.message ≡ message → reply_in id from message ≡ Some reply → IsSaid g J id reply p.from K
+    → MessageSource g J K p e → e.from ≡ from → e.message ≡ message → reply_in id from message ≡ Some reply → IsSaid g J id reply p.from K
 said_by g J K p e (Replica m) (messages.FastReply b) id reply w t from is read =
     let c = cond_some (id_eq b.id id) (of_fast m b) reply read in
     let s = sends_as g J K p e m (messages.FastReply b) w t from is in

@@ -242,10 +242,10 @@ module _ {R : Type 0} (g : GroupStates R) (J : List R) (m : FollowsRules g J) wh
       → IsModified (lead_of g v (r ∷ K)) (g.state y K) (g.state y (r ∷ K))
   modified_at y v r K at d up s =
       let view : (g.state y K).view ≡ v = sym (modes y K (at_tail J r K at) d.before) ∙ up.last in
-      let told_at = at_then J K d.told (at_tail J r K at) d.moment in
-      let led : keys (leader_of g.f (g.state y K).view) d.told ≡ lead_of g v d.told =
-      lead_is g J records (g.state y K).view d.told told_at d.leader ∙ ap (λ (x : ℕ). lead_of g x d.told) view in
-      let ahead = subst (λ (l : List Key). IsPrefix l (lead_of g v (r ∷ K))) (sym led) (lead_grows g J records v d.told (r ∷ K) at (inr d.moment)) in
+      let sent_there = at_then J K d.sent_at (at_tail J r K at) d.moment in
+      let led : keys (leader_of g.f (g.state y K).view) d.sent_at ≡ lead_of g v d.sent_at =
+      lead_is g J records (g.state y K).view d.sent_at sent_there d.leader ∙ ap (λ (x : ℕ). lead_of g x d.sent_at) view in
+      let ahead = subst (λ (l : List Key). IsPrefix l (lead_of g v (r ∷ K))) (sym led) (lead_grows g J records v d.sent_at (r ∷ K) at (inr d.moment)) in
       d.modified (lead_of g v (r ∷ K)) (still_led y v r K at s) ahead
 
   -- at all moments up to K
@@ -288,12 +288,12 @@ module _ {R : Type 0} (g : GroupStates R) (J : List R) (m : FollowsRules g J) wh
       whole y v (r ∷ K) (r ∷ K) began.0 at (at_self (r ∷ K)) began.1 (leads_at y v (r ∷ K) at l n) d.synced
   holds_step y v r K at acts (Adopted d) rest up =
       let view : (g.state y (r ∷ K)).view ≡ v = sym d.last ∙ up.last in
-      let told_at = at_then J K d.told (at_tail J r K at) d.moment in
-      let n : IsNormal M (leader_of g.f v) v d.told = subst (λ (x : ℕ). IsNormal M (leader_of g.f x) x d.told) view d.leader in
-      let s = rest d.told d.moment (leader_of g.f v) (in_view (leader_of g.f v) v d.told told_at n) in
-      let is : keys y (r ∷ K) ≡ lead_of g v d.told =
-      d.log ∙ ap (λ (x : ℕ). keys (leader_of g.f x) d.told) view ∙ lead_is g J records v d.told told_at n in
-      whole y v (r ∷ K) d.told s.start at (inr d.moment) s.began is d.synced
+      let sent_there = at_then J K d.sent_at (at_tail J r K at) d.moment in
+      let n : IsNormal M (leader_of g.f v) v d.sent_at = subst (λ (x : ℕ). IsNormal M (leader_of g.f x) x d.sent_at) view d.leader in
+      let s = rest d.sent_at d.moment (leader_of g.f v) (in_view (leader_of g.f v) v d.sent_at sent_there n) in
+      let is : keys y (r ∷ K) ≡ lead_of g v d.sent_at =
+      d.log ∙ ap (λ (x : ℕ). keys (leader_of g.f x) d.sent_at) view ∙ lead_is g J records v d.sent_at sent_there n in
+      whole y v (r ∷ K) d.sent_at s.start at (inr d.moment) s.began is d.synced
   holds_step y v r K at acts (Fell down) rest up = never_up (g.state y (r ∷ K)).status up.up down
   holds_step y v r K at acts (Rose d) rest up = absurd (subst IsUp d.after up.up)
 

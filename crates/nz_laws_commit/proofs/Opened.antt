@@ -102,7 +102,7 @@ one_accepted c before after o lt h =
 record Parts (g : Group) (c : ℕ) (r : Record) (J : List Record) : Type 0 where
   first : List ClientEvent
   second : List ClientEvent
-  told : client_events g r.actor r J ≡ first ++ second
+  joined : client_events g r.actor r J ≡ first ++ second
   none : count_sent c first ≡ 0
   sends : count_sent c second + (state_after g (Client c) J).sent ≤ (state_after g (Client c) (r ∷ J)).sent
   takes : (state_after g (Client c) (r ∷ J)).accepted ≤ count_accepted c first + (state_after g (Client c) J).accepted
@@ -111,11 +111,11 @@ record Parts (g : Group) (c : ℕ) (r : Record) (J : List Record) : Type 0 where
 other_parts : (g : Group) (c : ℕ) (r : Record) (J : List Record) (first second : List ClientEvent)
     → client_events g r.actor r J ≡ first ++ second → actor_eq r.actor (Client c) ≡ false
     → count_sent c first ≡ 0 → count_sent c second ≡ 0 → Parts g c r J
-other_parts g c r J first second told other none nothing =
+other_parts g c r J first second joined other none nothing =
     let same = stays g (Client c) r J other in
     let sent = ap (λ (s : ClientData). s.sent) same in
     let accepted = ap (λ (s : ClientData). s.accepted) same in
-    record { first = first; second = second; told = told; none = none; sends = omega (arith, nothing, sent); takes = omega (arith, accepted) }
+    record { first = first; second = second; joined = joined; none = none; sends = omega (arith, nothing, sent); takes = omega (arith, accepted) }
 
 own_parts : (g : Group) (c : ℕ) (r : Record) (J : List Record) → r.actor ≡ Client c → Parts g c r J
 own_parts g c r J by =
@@ -131,7 +131,7 @@ own_parts g c r J by =
     record {
       first = first;
       second = second;
-      told = ap (λ (a : Actor). client_events g a r J) by;
+      joined = ap (λ (a : Actor). client_events g a r J) by;
       none = none_sent c c before after read;
       sends = omega (arith, few, more);
       takes = elim (cases_lt before.accepted after.accepted) [
@@ -211,7 +211,7 @@ few_now g c r J part after h whole =
     let none = p.none in
     let all_sent = sent_append c (events g J) part in
     let all_accepted = accepted_append c (events g J) part in
-    elim (split p.first p.second part after (sym p.told ∙ whole)) [
+    elim (split p.first p.second part after (sym p.joined ∙ whole)) [
       | inl t ↦
           let less = ap (count_sent c) t.whole ∙ sent_append c part t.rest in
           omega (arith, old, sent, none, less, all_sent, all_accepted)
@@ -243,13 +243,13 @@ few g c (r ∷ J) =
     let none = p.none in
     let sends = p.sends in
     let takes = p.takes in
-    let told_sent = ap (count_sent c) p.told ∙ sent_append c p.first p.second in
-    let told_taken = ap (count_accepted c) p.told ∙ accepted_append c p.first p.second in
+    let here_sent = ap (count_sent c) p.joined ∙ sent_append c p.first p.second in
+    let here_taken = ap (count_accepted c) p.joined ∙ accepted_append c p.first p.second in
     let all_sent = sent_append c (events g J) (client_events g r.actor r J) in
     let all_taken = accepted_append c (events g J) (client_events g r.actor r J) in
     record {
-      sent = omega (arith, old_sent, none, sends, told_sent, all_sent);
-      taken = omega (arith, old_taken, takes, told_taken, all_taken);
+      sent = omega (arith, old_sent, none, sends, here_sent, all_sent);
+      taken = omega (arith, old_taken, takes, here_taken, all_taken);
       prefixes = λ before after e. elim (split (events g J) (client_events g r.actor r J) before after e) [
         | inl t ↦ h.prefixes before t.rest t.whole
         | inr t ↦

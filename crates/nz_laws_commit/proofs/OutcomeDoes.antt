@@ -71,22 +71,22 @@ pub record KnowsLog (f y : ℕ) (s : ReplicaData) : Type 0 where
   pub led : is_normal s.status ≡ true → eqb (leader_of f s.view) y ≡ true → s.log.synced ≡ length s.log.entries
 
 -- a log modification has the keys of its sender's log and its commit, in whose view it was in normal operation
-pub record IsToldMod (g : Group) (K : List Record) (sender : ℕ) (b : LogModBody) : Type 0 where
-  pub told : List Record
-  pub moment : At K told
-  pub normal : is_normal (replica_at g sender told).status ≡ true
-  pub view : (replica_at g sender told).view ≡ b.view
-  pub commit : (replica_at g sender told).commit ≡ b.commit
-  pub keys : b.keys ≡ take MAX_KEYS (drop b.start (keys_of (replica_at g sender told).log.entries))
+pub record ModSource (g : Group) (K : List Record) (sender : ℕ) (b : LogModBody) : Type 0 where
+  pub sent_at : List Record
+  pub moment : At K sent_at
+  pub normal : is_normal (replica_at g sender sent_at).status ≡ true
+  pub view : (replica_at g sender sent_at).view ≡ b.view
+  pub commit : (replica_at g sender sent_at).commit ≡ b.commit
+  pub keys : b.keys ≡ take MAX_KEYS (drop b.start (keys_of (replica_at g sender sent_at).log.entries))
 
 -- a whole log is its sender's, with its commit
-pub record IsToldLog (g : Group) (K : List Record) (sender named : ℕ) (list : List Entry) (count : ℕ) : Type 0 where
-  pub told : List Record
-  pub moment : At K told
-  pub normal : is_normal (replica_at g sender told).status ≡ true
-  pub view : (replica_at g sender told).view ≡ named
-  pub entries : (replica_at g sender told).log.entries ≡ list
-  pub commit : (replica_at g sender told).commit ≡ count
+pub record LogSource (g : Group) (K : List Record) (sender named : ℕ) (list : List Entry) (count : ℕ) : Type 0 where
+  pub sent_at : List Record
+  pub moment : At K sent_at
+  pub normal : is_normal (replica_at g sender sent_at).status ≡ true
+  pub view : (replica_at g sender sent_at).view ≡ named
+  pub entries : (replica_at g sender sent_at).log.entries ≡ list
+  pub commit : (replica_at g sender sent_at).commit ≡ count
 
 -- ---- released entries
 
@@ -101,11 +101,11 @@ grown_synced f y s _ (More log normal follows more) = more.follows refl
 -- ---- each outcome
 
 module _ (g : Group) (y : ℕ) (r : Record) (K : List Record) (knows : KnowsLog g.f y (law_state_at g y K)) (sound : IsSound g.f (law_state_at g y K))
-    (mods : (sender : ℕ) (b : LogModBody) → heard_by g y r.event ≡ Some (Replica sender, messages.LogMod b) → IsToldMod g K sender b)
+    (mods : (sender : ℕ) (b : LogModBody) → heard_by g y r.event ≡ Some (Replica sender, messages.LogMod b) → ModSource g K sender b)
     (starts : (sender : ℕ) (b : StartViewBody) → heard_by g y r.event ≡ Some (Replica sender, messages.StartView b)
-    → IsToldLog g K sender b.view b.entries b.commit)
+    → LogSource g K sender b.view b.entries b.commit)
     (tells : (sender : ℕ) (b : StateTellBody) → heard_by g y r.event ≡ Some (Replica sender, messages.StateTell b)
-    → IsToldLog g K sender b.view b.entries b.commit)
+    → LogSource g K sender b.view b.entries b.commit)
   where
     abbrev s : ReplicaData
     s = law_state_at g y K
@@ -125,8 +125,8 @@ module _ (g : Group) (y : ℕ) (r : Record) (K : List Record) (knows : KnowsLog 
     adopted : (t : ReplicaData) → law_state_at g y (r ∷ K) ≡ t → AdoptsLog (states_of g) y K (log_state s) (log_state t) → DoesHere
     adopted t is h = ways.Adopted (subst (λ (u : ReplicaData). AdoptsLog (states_of g) y K (log_state s) (log_state u)) (sym is) h)
 
-    told_by : (sender leader : ℕ) (b : LogModBody) → sender ≡ leader → IsToldMod g K sender b → IsToldMod g K leader b
-    told_by sender leader b is h = subst (λ (z : ℕ). IsToldMod g K z b) is h
+    mod_source_of : (sender leader : ℕ) (b : LogModBody) → sender ≡ leader → ModSource g K sender b → ModSource g K leader b
+    mod_source_of sender leader b is h = subst (λ (z : ℕ). ModSource g K z b) is h
 
     pub outcome_is : (t : ReplicaData) → Outcome g.f y r.event (heard_by g y r.event) s t → law_state_at g y (r ∷ K) ≡ t → DoesHere
     outcome_is _ Stays is = unchanged _ is (record { status = refl; view = refl; last = refl; synced = refl; log = refl })
@@ -144,18 +144,18 @@ module _ (g : Group) (y : ℕ) (r : Record) (K : List Record) (knows : KnowsLog 
     outcome_is _ (Sync sender b new hears le log changed) is =
         let L = leader_of g.f s.view in
         let leads : sender ≡ L = hears.leader ∙ ap (leader_of g.f) hears.same in
-        let told = told_by sender L b leads (mods sender b new.is) in
-        let early = keys_of (replica_at g L told.told).log.entries in
-        let taken = changed.taken knows.sound early told.keys in
+        let sent = mod_source_of sender L b leads (mods sender b new.is) in
+        let early = keys_of (replica_at g L sent.sent_at).log.entries in
+        let taken = changed.taken knows.sound early sent.keys in
         synced _ is (record {
           before = normal_status s.status hears.normal;
           after = normal_status s.status hears.normal;
           view = refl;
           last = refl;
           follows = λ leads. absurd (true_and_false (eqb L y) (eq-eqb L y leads) hears.follows);
-          told = told.told;
-          moment = told.moment;
-          leader = is_normal_at g L s.view told.told told.normal (told.view ∙ hears.same);
+          sent_at = sent.sent_at;
+          moment = sent.moment;
+          leader = is_normal_at g L s.view sent.sent_at sent.normal (sent.view ∙ hears.same);
           synced = taken.synced;
           entries = taken.entries;
           modified = λ lead part prefix. record { part = taken.part lead part prefix; prefixes = λ P p either. taken.prefixes lead part prefix P p either };
@@ -205,7 +205,7 @@ module _ (g : Group) (y : ℕ) (r : Record) (K : List Record) (knows : KnowsLog 
           synced = refl;
         }))
     outcome_is _ (Start sender b new may) is =
-        let told = subst (λ (z : ℕ). IsToldLog g K z b.view b.entries b.commit) may.leader (starts sender b new.is) in
+        let sent = subst (λ (z : ℕ). LogSource g K z b.view b.entries b.commit) may.leader (starts sender b new.is) in
         adopted _ is (record {
           before = λ down. up_not_down s.status may.up down;
           after = refl;
@@ -213,10 +213,10 @@ module _ (g : Group) (y : ℕ) (r : Record) (K : List Record) (knows : KnowsLog 
           view = λ _. may.later;
           higher = λ _. starts_low g.f s sender b.view sound may;
           synced = refl;
-          told = told.told;
-          moment = told.moment;
-          leader = is_normal_at g (leader_of g.f b.view) b.view told.told told.normal told.view;
-          log = ap keys_of (sym told.entries);
+          sent_at = sent.sent_at;
+          moment = sent.moment;
+          leader = is_normal_at g (leader_of g.f b.view) b.view sent.sent_at sent.normal sent.view;
+          log = ap keys_of (sym sent.entries);
         })
     outcome_is _ (Fall e) is = ways.Fell (ap (λ (u : ReplicaData). status_of u.status) is)
     outcome_is _ (Wake nonce e down) is =
@@ -229,7 +229,7 @@ module _ (g : Group) (y : ℕ) (r : Record) (K : List Record) (knows : KnowsLog 
     outcome_is _ (AskLog sender b new ours enough) is =
         unchanged _ is (record { status = refl; view = refl; last = refl; synced = refl; log = refl })
     outcome_is _ (Return sender b new ours late leader) is =
-        let told = subst (λ (z : ℕ). IsToldLog g K z b.view b.entries b.commit) leader (tells sender b new.is) in
+        let sent = subst (λ (z : ℕ). LogSource g K z b.view b.entries b.commit) leader (tells sender b new.is) in
         adopted _ is (record {
           before = λ down. rejoining_not_down s.status ours.rejoining down;
           after = refl;
@@ -237,10 +237,10 @@ module _ (g : Group) (y : ℕ) (r : Record) (K : List Record) (knows : KnowsLog 
           view = λ up. up_no_rejoin s.status (status_up s.status up) ours.rejoining;
           higher = λ up. up_no_rejoin s.status (status_up s.status up) ours.rejoining;
           synced = refl;
-          told = told.told;
-          moment = told.moment;
-          leader = is_normal_at g (leader_of g.f b.view) b.view told.told told.normal told.view;
-          log = ap keys_of (sym told.entries);
+          sent_at = sent.sent_at;
+          moment = sent.moment;
+          leader = is_normal_at g (leader_of g.f b.view) b.view sent.sent_at sent.normal sent.view;
+          log = ap keys_of (sym sent.entries);
         })
     outcome_is _ (Back rejoining phase) is = unchanged _ is (record { status = refl; view = refl; last = refl; synced = refl; log = refl })
 
@@ -255,9 +255,9 @@ knows_log g y K w =
       led = λ normal led. (facts.executed.led normal led).synced;
     }
 
-pub told_mod : (g : Group) (y : ℕ) (r : Record) (K : List Record) → World g (r ∷ K) → r.actor ≡ Replica y → (sender : ℕ) (b : LogModBody)
-    → heard_by g y r.event ≡ Some (Replica sender, messages.LogMod b) → IsToldMod g K sender b
-told_mod g y r K w a sender b heard =
+pub mod_source : (g : Group) (y : ℕ) (r : Record) (K : List Record) → World g (r ∷ K) → r.actor ≡ Replica y → (sender : ℕ) (b : LogModBody)
+    → heard_by g y r.event ≡ Some (Replica sender, messages.LogMod b) → ModSource g K sender b
+mod_source g y r K w a sender b heard =
     let was = was_sent g r K w (Replica y) (Replica sender) (messages.LogMod b) a heard in
     let k = has_source (letters.letter sender y (messages.LogMod b)) K was.sent in
     let s = source_is (letters.letter sender y (messages.LogMod b)) K k.0 k.1 in
@@ -266,7 +266,7 @@ told_mod g y r K w a sender b heard =
     let same = sym shows.read in
     let start = ap (λ (x : LogModBody). x.start) same in
     record {
-      told = s.newest ∷ s.older;
+      sent_at = s.newest ∷ s.older;
       moment = s.at;
       normal = shows.normal;
       view = ap (λ (x : LogModBody). x.view) same;
@@ -275,28 +275,28 @@ told_mod g y r K w a sender b heard =
           ∙ ap (λ (n : ℕ). take MAX_KEYS (drop n (keys_of (replica_at g sender (s.newest ∷ s.older)).log.entries))) start;
     }
 
-pub told_start : (g : Group) (y : ℕ) (r : Record) (K : List Record) → World g (r ∷ K) → r.actor ≡ Replica y → (sender : ℕ) (b : StartViewBody)
-    → heard_by g y r.event ≡ Some (Replica sender, messages.StartView b) → IsToldLog g K sender b.view b.entries b.commit
-told_start g y r K w a sender b heard =
+pub start_source : (g : Group) (y : ℕ) (r : Record) (K : List Record) → World g (r ∷ K) → r.actor ≡ Replica y → (sender : ℕ) (b : StartViewBody)
+    → heard_by g y r.event ≡ Some (Replica sender, messages.StartView b) → LogSource g K sender b.view b.entries b.commit
+start_source g y r K w a sender b heard =
     let h = shows g K w.1 in
     let s = letters.sent_at sender y (messages.StartView b) K (letters.was_sent g y r K w a sender (messages.StartView b) heard) in
-    let told = h.start_view sender y b s.record_of s.older s.at s.sends in
-    record { told = s.record_of ∷ s.older; moment = s.at; normal = told.normal; view = told.view; entries = told.entries; commit = told.commit }
+    let sent = h.start_view sender y b s.record_of s.older s.at s.sends in
+    record { sent_at = s.record_of ∷ s.older; moment = s.at; normal = sent.normal; view = sent.view; entries = sent.entries; commit = sent.commit }
 
-pub told_state : (g : Group) (y : ℕ) (r : Record) (K : List Record) → World g (r ∷ K) → r.actor ≡ Replica y → (sender : ℕ) (b : StateTellBody)
-    → heard_by g y r.event ≡ Some (Replica sender, messages.StateTell b) → IsToldLog g K sender b.view b.entries b.commit
-told_state g y r K w a sender b heard =
+pub state_source : (g : Group) (y : ℕ) (r : Record) (K : List Record) → World g (r ∷ K) → r.actor ≡ Replica y → (sender : ℕ) (b : StateTellBody)
+    → heard_by g y r.event ≡ Some (Replica sender, messages.StateTell b) → LogSource g K sender b.view b.entries b.commit
+state_source g y r K w a sender b heard =
     let h = shows g K w.1 in
     let s = letters.sent_at sender y (messages.StateTell b) K (letters.was_sent g y r K w a sender (messages.StateTell b) heard) in
-    let told = h.state_tell sender y b s.record_of s.older s.at s.sends in
-    record { told = s.record_of ∷ s.older; moment = s.at; normal = told.normal; view = told.view; entries = told.entries; commit = told.commit }
+    let sent = h.state_tell sender y b s.record_of s.older s.at s.sends in
+    record { sent_at = s.record_of ∷ s.older; moment = s.at; normal = sent.normal; view = sent.view; entries = sent.entries; commit = sent.commit }
 
 -- ---- the premises on the rules
 
 outcome_does : (g : Group) (y : ℕ) (r : Record) (K : List Record) → World g (r ∷ K) → r.actor ≡ Replica y
     → Outcome g.f y r.event (heard_by g y r.event) (law_state_at g y K) (law_state_at g y (r ∷ K)) → Does (states_of g) y r K
 outcome_does g y r K w a outcome =
-    outcome_is g y r K (knows_log g y K w.1) (sound_at g K w.1 y) (told_mod g y r K w a) (told_start g y r K w a) (told_state g y r K w a)
+    outcome_is g y r K (knows_log g y K w.1) (sound_at g K w.1 y) (mod_source g y r K w a) (start_source g y r K w a) (state_source g y r K w a)
     (law_state_at g y (r ∷ K)) outcome refl
 
 -- each record of a replica

@@ -14,7 +14,7 @@ use Rattle.nz_msg.specs.declared.message.StartViewBody.{StartViewBody}
 use Rattle.nz_msg.specs.declared.message.StateTellBody.{StateTellBody}
 use Rattle.nz_msg.specs.declared.message.Message.{Message}
 use Rattle.nz_msg.specs.declared.message.Message.TheVariants as messages
-use Rattle.nz_machine.specs.declared.data.Reported.{Reported}
+use Rattle.nz_machine.specs.declared.data.CollectedReport.{CollectedReport}
 use Rattle.nz_machine.specs.declared.event.Record.{Record}
 use Rattle.nz_machine.specs.rules.State.{ReplicaData, ProxyData, ClientData, State, Group, Out}
 use Rattle.nz_machine.specs.rules.Replicas.{is_down}
@@ -100,8 +100,9 @@ state_later E more (Replica r) s h = record {
   log = entries_later E more s.log.entries h.log;
   early = entries_later E more s.early h.early;
   late = entries_later E more s.late h.late;
-  reports = all_imply (λ (x : Reported). AllByRecursion (WasSent E) x.change.log) (λ (x : Reported). AllByRecursion (WasSent (E ++ more)) x.change.log)
-      (λ x q. entries_later E more x.change.log q) s.changes h.reports;
+  reports = all_imply (λ (x : CollectedReport). AllByRecursion (WasSent E) x.report.log)
+      (λ (x : CollectedReport). AllByRecursion (WasSent (E ++ more)) x.report.log)
+      (λ x q. entries_later E more x.report.log q) s.reports h.reports;
 }
 state_later E more (Proxy p) s h = tt
 state_later E more (Client c) s h = tt

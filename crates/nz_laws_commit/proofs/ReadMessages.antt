@@ -16,7 +16,7 @@ use Rattle.nz_machine.proofs.runs.Sources.{source_is}
 use Rattle.nz_machine.proofs.runs.FitRuns.{Fitted, FittedState, fits_keep}
 
 -- the record that first sent a parcel sends the message that is read of it
-pub record IsTold (g : Group) (J K : List Record) (p : Parcel) (e : Envelope) : Type 0 where
+pub record MessageSource (g : Group) (J K : List Record) (p : Parcel) (e : Envelope) : Type 0 where
   pub newest : Record
   pub older : List Record
   pub is : K ≡ newest ∷ older
@@ -27,9 +27,9 @@ pub record IsTold (g : Group) (J K : List Record) (p : Parcel) (e : Envelope) : 
   pub sends : Has newest.sends (parcel newest.actor (e.to, e.message))
   pub fit : FitsOut newest.actor (e.to, e.message)
 
-pub told_at : (g : Group) (J : List Record) → World g J → (a : Actor) (p : Parcel) (e : Envelope) → accepted_envelope g.f a p ≡ Some e → (K : List Record)
-    → source p J ≡ Some K → IsTold g J K p e
-told_at g J w a p e heard K found =
+pub message_source : (g : Group) (J : List Record) → World g J → (a : Actor) (p : Parcel) (e : Envelope) → accepted_envelope g.f a p ≡ Some e
+    → (K : List Record) → source p J ≡ Some K → MessageSource g J K p e
+message_source g J w a p e heard K found =
     let s = source_is p J K found in
     let now : World g (s.newest ∷ s.older) = at_world g J (s.newest ∷ s.older) w s.at in
     let b = sent_by g s.newest s.older p now s.sends in

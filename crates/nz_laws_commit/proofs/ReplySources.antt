@@ -32,7 +32,7 @@ use Rattle.nz_base.specs.Moments.{At}
 use Rattle.nz_base.proofs.Moments.{at_self}
 use Rattle.nz_machine.proofs.runs.Moments.{at_world}
 use Rattle.nz_machine.proofs.runs.Sources.{same_reply, has_source, source_stays}
-use Rattle.nz_laws_commit.proofs.ReadMessages.{IsTold, told_at}
+use Rattle.nz_laws_commit.proofs.ReadMessages.{MessageSource, message_source}
 use Rattle.nz_laws_commit.proofs.NotedWereSent.{IsSaid, said_later, said_by}
 use Rattle.nz_laws_commit.proofs.Answering.{IsGiven, given_later, IsAnswering, reply_given}
 use Rattle.nz_laws_commit.proofs.Standings.{StandingStep, Stays, Forgets, Opens, Notes, Decides, event_steps}
@@ -178,7 +178,7 @@ pub record IsBrought (g : Group) (J : List Record) (q : ℕ) (id : Id) (reply : 
   pub moment : List Record
   pub at : At J moment
   pub envelope : Envelope
-  pub told : IsTold g moment run parcel envelope
+  pub sent : MessageSource g moment run parcel envelope
   pub read : reply_in id envelope.from envelope.message ≡ Some reply
 
 pub noted_brought : (g : Group) (J : List Record) (q : ℕ) (id : Id) (reply : Reply) → World g J → HasMoment g q id reply J → IsBrought g J q id reply
@@ -193,18 +193,18 @@ noted_brought g J q id reply w h =
     let may : MayHappen b.older b.newest.actor (Deliver p) = subst (MayHappen b.older b.newest.actor) d.is known.0.event in
     let s = has_source p b.older may.1 in
     let found : source p moment ≡ Some s.0 = source_stays p b.newest b.older s.0 s.1 in
-    let told = told_at g moment known (Proxy q) p e d.heard s.0 found in
+    let sent = message_source g moment known (Proxy q) p e d.heard s.0 found in
     record {
       parcel = p;
       run = s.0;
       is = ap (option_and_then (λ M. option_and_then (source_of M) (parcel_delivered M))) (h.is ∙ ap Some b.is)
           ∙ ap (λ (x : Event). option_and_then (source_of moment) (parcel_in x)) d.is
           ∙ ap (option_map (λ (K : List Record). record { sender = p.from; run = K })) found;
-      said = said_later g J moment id reply p.from s.0 b.at (said_by g moment s.0 p e e.from e.message id reply known told refl refl t.1.1);
+      said = said_later g J moment id reply p.from s.0 b.at (said_by g moment s.0 p e e.from e.message id reply known sent refl refl t.1.1);
       moment = moment;
       at = b.at;
       envelope = e;
-      told = told;
+      sent = sent;
       read = t.1.1;
     }
 
@@ -228,5 +228,5 @@ noted_source g J q id reply a w h answer =
       is = b.is;
       said = b.said;
       given = given_later g J b.moment b.at (view_of reply) id a (prefix_at_source g id at)
-          (reply_given g b.moment b.run b.parcel e (view_of reply) id a known b.told answering);
+          (reply_given g b.moment b.run b.parcel e (view_of reply) id a known b.sent answering);
     }

@@ -11,7 +11,7 @@ use Rattle.nz_base.specs.Moments.{At}
 use Rattle.nz_base.specs.Prefixes.{IsPrefix}
 use Rattle.nz_base.proofs.Moments.{at_self, at_then, at_before, at_either}
 use Rattle.nz_base.proofs.Prefixes.{prefix_take, prefix_then, prefix_length, shorter_prefix, both_prefixes}
-use Rattle.nz_merge.specs.declared.change.Change.{Change}
+use Rattle.nz_merge.specs.declared.report.Report.{Report}
 use Rattle.nz_merge.specs.Merged.{IsFit}
 use Rattle.nz_laws_commit.specs.States.{Normal, IsUp, Machine, place}
 use Rattle.nz_laws_commit.specs.Supports.{keys_at, view_leader, IsNormal, IsUpIn, HadSynced, FastReplied}
@@ -27,11 +27,11 @@ module _ {R : Type 0} (M : Machine R) (J : List R) (h : RunLaws M J) where
 
   -- ---- a Normal leader
 
-  -- what a leader of v tells with more at y's place, it tells later
-  pub tell_after : (v y : ℕ) (K t : List R) → At J K → At J t → IsNormal M (view_leader M v) v K → IsNormal M (view_leader M v) v t
+  -- a moment at which the leader of v has more at y's place is later
+  pub is_later_with_more : (v y : ℕ) (K t : List R) → At J K → At J t → IsNormal M (view_leader M v) v K → IsNormal M (view_leader M v) v t
       → place (M.state (view_leader M v) K).vector y < place (M.state (view_leader M v) t).vector y
       → At t K × IsPrefix (keys_at M (view_leader M v) K) (keys_at M (view_leader M v) t)
-  tell_after v y K t at there n m more =
+  is_later_with_more v y K t at there n m more =
       let l = view_leader M v in
       elim (at_either J K t at there) [
         | inl later ↦
@@ -113,7 +113,7 @@ module _ {R : Type 0} (M : Machine R) (J : List R) (h : RunLaws M J) where
 
   -- ---- one report of the begin of w, and a view v below w
 
-  module _ (w v : ℕ) (lt : v < w) (c : Change) (r : IsMemberReport M w c J) where
+  module _ (w v : ℕ) (lt : v < w) (c : Report) (r : IsMemberReport M w c J) where
     pub read_at : At J r.read
     read_at = elim r.is [
       | inl same ↦ subst (At J) (sym same) r.moment
@@ -251,10 +251,10 @@ module _ {R : Type 0} (M : Machine R) (J : List R) (h : RunLaws M J) where
               let same : place (M.state y now).vector y ≡ place (M.state l L).vector y = ap (λ (x : List ℕ). place x y) (over.vector ∙ sym vector) in
               let own = b.own in
               let counter = b.counter in
-              let tell = tell_after v y L b.t L_at b.told_at leads b.leader (omega (arith, rise, same, own, counter)) in
+              let leads_later = is_later_with_more v y L b.t L_at b.told_at leads b.leader (omega (arith, rise, same, own, counter)) in
               let in_leader : IsPrefix P (keys_at M l L) = shorter_prefix P (keys_at M l L) (M.lead v J) prefix
               (subst (λ (ks : List Key). IsPrefix ks (M.lead v J)) (sym (h.lead_is v L L_at leads)) (h.lead_grows v L J (at_self J) L_at)) long in
-              let in_told : IsPrefix P (keys_at M l b.t) = prefix_then P (keys_at M l L) (keys_at M l b.t) in_leader tell.1 in
+              let in_told : IsPrefix P (keys_at M l b.t) = prefix_then P (keys_at M l L) (keys_at M l b.t) in_leader leads_later.1 in
               prefix_then P (keys_at M y b.C) (keys_at M y r.read) (subst (IsPrefix P) (sym b.log) in_told) (told_stays y v r.read read_at (read_in e) b).1
           | inr no_newer ↦
               let grows = h.inc_grows y now r.read read_at order in

@@ -51,20 +51,20 @@ pub record VectorGrows (y : ℕ) (s t : LogState) : Type 0 where
   pub own : place s.vector y ≡ place t.vector y
 
 module _ {R : Type 0} (g : GroupStates R) where
-  -- A follower takes a log modification that the leader of its view sent at the moment `told`.
+  -- A follower takes a log modification that the leader of its view sent at the moment `sent_at`.
   pub record Syncs (y : ℕ) (K : List R) (s t : LogState) : Type 0 where
     pub before : s.status ≡ Normal
     pub after : t.status ≡ Normal
     pub view : t.view ≡ s.view
     pub last : t.last ≡ s.last
     pub follows : ¬ (leader_of g.f s.view ≡ y)
-    pub told : List R
-    pub moment : At K told
-    pub leader : IsNormal (machine_of g) (leader_of g.f s.view) s.view told
+    pub sent_at : List R
+    pub moment : At K sent_at
+    pub leader : IsNormal (machine_of g) (leader_of g.f s.view) s.view sent_at
     pub synced : s.synced ≤ t.synced
     pub entries : take s.synced (keys_of s.log) ≡ take s.synced (keys_of t.log)
     pub modified : (lead : List Key) → IsPrefix (take s.synced (keys_of s.log)) lead
-        → IsPrefix (keys_at (machine_of g) (leader_of g.f s.view) told) lead → IsModified lead s t
+        → IsPrefix (keys_at (machine_of g) (leader_of g.f s.view) sent_at) lead → IsModified lead s t
 
   -- The replica begins the view that it leads.
   pub record BeginsView (y : ℕ) (s t : LogState) : Type 0 where
@@ -76,7 +76,7 @@ module _ {R : Type 0} (g : GroupStates R) where
     pub higher : s.last < t.last
     pub synced : t.synced ≡ length t.log
 
-  -- It takes the log that the leader of a view sent it at the moment `told`, by a start-view or a state-tell.
+  -- It takes the log that the leader of a view sent it at the moment `sent_at`, by a start-view or a state-tell.
   pub record AdoptsLog (y : ℕ) (K : List R) (s t : LogState) : Type 0 where
     pub before : ¬ (s.status ≡ Down)
     pub after : t.status ≡ Normal
@@ -84,10 +84,10 @@ module _ {R : Type 0} (g : GroupStates R) where
     pub view : IsUp s.status → s.view ≤ t.view
     pub higher : IsUp s.status → s.last < t.last
     pub synced : t.synced ≡ length t.log
-    pub told : List R
-    pub moment : At K told
-    pub leader : IsNormal (machine_of g) (leader_of g.f t.view) t.view told
-    pub log : keys_of t.log ≡ keys_at (machine_of g) (leader_of g.f t.view) told
+    pub sent_at : List R
+    pub moment : At K sent_at
+    pub leader : IsNormal (machine_of g) (leader_of g.f t.view) t.view sent_at
+    pub log : keys_of t.log ≡ keys_at (machine_of g) (leader_of g.f t.view) sent_at
 
   -- A restart takes the replica from down to rejoining.
   pub record Restarts (r : R) (s t : LogState) : Type 0 where

@@ -6,7 +6,7 @@ use Rattle.nz_base.specs.Log.{keys_of, IsLog}
 use Rattle.nz_base.specs.Moments.{At, Before}
 use Rattle.nz_math.specs.Count.{IsChoice}
 use Rattle.nz_math.specs.Quorum.{group_size, slow_quorum}
-use Rattle.nz_merge.specs.declared.change.Change.{Change}
+use Rattle.nz_merge.specs.declared.report.Report.{Report}
 use Rattle.nz_merge.specs.Merged.{merged}
 use Rattle.nz_merge.specs.Sender.{senders}
 use Rattle.nz_laws_commit.specs.States.{Normal, Rejoining, IsUp, Machine, place}
@@ -61,7 +61,7 @@ module _ {R : Type 0} (M : Machine R) where
   ReportsState y q read = (read ≡ q) ⊎ ((r : R) × (q ≡ r ∷ read) × ((M.state y q).status ≡ Normal))
 
   -- What the begin of w merged of a member is its state, reported at q, where it was up in w.
-  pub record IsMemberReport (w : ℕ) (c : Change) (J : List R) : Type 0 where
+  pub record IsMemberReport (w : ℕ) (c : Report) (J : List R) : Type 0 where
     pub q : List R
     pub moment : At J q
     pub up : IsUp (M.state c.sender q).status
@@ -78,11 +78,11 @@ module _ {R : Type 0} (M : Machine R) where
 
   -- The view w began with the merged log of the reports of f + 1 different members.
   pub record IsMergeOfReports (w : ℕ) (S : List Key) (J : List R) : Type 0 where
-    pub changes : List Change
-    pub merged : S ≡ keys_of (merged M.f changes)
-    pub choice : IsChoice (group_size M.f) (senders changes)
-    pub size : length changes ≡ slow_quorum M.f
-    pub reports : All (λ c. IsMemberReport w c J) changes
+    pub reports : List Report
+    pub merged : S ≡ keys_of (merged M.f reports)
+    pub choice : IsChoice (group_size M.f) (senders reports)
+    pub size : length reports ≡ slow_quorum M.f
+    pub members : All (λ c. IsMemberReport w c J) reports
 
   -- ---- the premises
 

@@ -33,7 +33,7 @@ use Rattle.nz_laws_cv.proofs.WithinIncarnation.{sound_at, in_group, inc_grows, i
 use Rattle.nz_laws_cv.proofs.SentShows.{letter, Shows, shows_at, shows_before, sent_at, was_sent}
 use Rattle.nz_machine.proofs.runs.Sources.{source_is, has_source}
 use Rattle.nz_laws_cv.proofs.Lists.{in_map}
-use Rattle.nz_laws_cv.proofs.Changes.{AreReports, collected, reporter, report_message}
+use Rattle.nz_laws_cv.proofs.Reports.{AreReports, collected, reporter, report_message}
 use Rattle.nz_laws_cv.proofs.Collected.{Sent, collected_later, collected_at, hears_sent, IsBegun}
 use Rattle.nz_laws_cv.proofs.Collected.{Arrives, Was, Starts, Returns, arrives, own_zero}
 use Rattle.nz_laws_cv.proofs.Collected as arrivals
@@ -86,8 +86,8 @@ begun_by g w r K led not_led (Returns sender b is leader view) =
 -- with the reports that it has collected then
 pub record IsBeginOf (g : Group) (w : ℕ) (r : Record) (K : List Record) : Type 0 where
   pub reports : AreReports g.f (leader_of g.f w) (Sent (r ∷ K) (leader_of g.f w)) w (replica_at g (leader_of g.f w) (r ∷ K)).vector
-      (replica_at g (leader_of g.f w) (r ∷ K)).changes
-  pub full : length (replica_at g (leader_of g.f w) (r ∷ K)).changes ≡ g.f
+      (replica_at g (leader_of g.f w) (r ∷ K)).reports
+  pub full : length (replica_at g (leader_of g.f w) (r ∷ K)).reports ≡ g.f
 
 begin_acts : (g : Group) (w : ℕ) (r : Record) (K : List Record) → World g (r ∷ K) → Shows g (r ∷ K) → is_led g w (r ∷ K) ≡ true → is_led g w K ≡ false
     → r.actor ≡ Replica (leader_of g.f w)
@@ -104,9 +104,9 @@ begin_acts g w r K world h led not_led a b =
     (in_group g l r.actor a world.0.member)
     (law_state_at g l K) b.sender b.body b.base (sound_at g K world.1 l) old b.new b.on in
     record {
-      reports = subst (λ (v : ℕ). AreReports g.f l (Sent (r ∷ K) l) v (replica_at g l (r ∷ K)).vector (replica_at g l (r ∷ K)).changes) view
-          (subst (λ (s : ReplicaData). AreReports g.f l (Sent (r ∷ K) l) b.body.view s.vector s.changes) (sym b.is) all);
-      full = ap (λ (s : ReplicaData). length s.changes) b.is ∙ b.full;
+      reports = subst (λ (v : ℕ). AreReports g.f l (Sent (r ∷ K) l) v (replica_at g l (r ∷ K)).vector (replica_at g l (r ∷ K)).reports) view
+          (subst (λ (s : ReplicaData). AreReports g.f l (Sent (r ∷ K) l) b.body.view s.vector s.reports) (sym b.is) all);
+      full = ap (λ (s : ReplicaData). length s.reports) b.is ∙ b.full;
     }
 
 -- who leads now and did not before begins the view
@@ -143,14 +143,14 @@ module _ (g : Group) (J : List Record) (w : ℕ) (r : Record) (K : List Record) 
   now : (is_normal (replica_at g l B).status ≡ true) × ((replica_at g l B).view ≡ w)
   now = normal_in_is w (replica_at g l B) led
 
-  others_below : (y : ℕ) → is_in (map reporter (replica_at g l B).changes) y ≡ true → (y < replica_count g.f) × (¬ (y ≡ l))
+  others_below : (y : ℕ) → is_in (map reporter (replica_at g l B).reports) y ≡ true → (y < replica_count g.f) × (¬ (y ≡ l))
   others_below y has =
-      let t = in_map reporter (replica_at g l B).changes y has in
+      let t = in_map reporter (replica_at g l B).reports y has in
       let k = of.reports.each t.item t.has in
       (subst (λ (z : ℕ). z < replica_count g.f) t.is k.below, subst (λ (z : ℕ). ¬ (z ≡ l)) t.is k.other)
 
-  leader_out : is_in (map reporter (replica_at g l B).changes) l ≡ false
-  leader_out = elim (cases_Bool (is_in (map reporter (replica_at g l B).changes) l)) [
+  leader_out : is_in (map reporter (replica_at g l B).reports) l ≡ false
+  leader_out = elim (cases_Bool (is_in (map reporter (replica_at g l B).reports) l)) [
     | inl among ↦ absurd ((others_below l among).1 refl)
     | inr out ↦ out
   ]
@@ -162,34 +162,34 @@ module _ (g : Group) (J : List Record) (w : ℕ) (r : Record) (K : List Record) 
   is_reported = record {
     exact = of.full;
     senders = record { choice = record { distinct = of.reports.distinct; below = λ y has. (others_below y has).0 }; others = leader_out };
-    sent = λ x has. has_source (letter x.change.sender l (report_message w x)) B (of.reports.each x has).sent.has;
+    sent = λ x has. has_source (letter x.report.sender l (report_message w x)) B (of.reports.each x has).sent.has;
   }
 
-  member : (y : ℕ) → is_in (map reporter (replica_at g l B).changes) y ≡ true → (Q : List Record) × IsMemberOf g w B y Q
+  member : (y : ℕ) → is_in (map reporter (replica_at g l B).reports) y ≡ true → (Q : List Record) × IsMemberOf g w B y Q
   member y has =
-      let t = in_map reporter (replica_at g l B).changes y has in
+      let t = in_map reporter (replica_at g l B).reports y has in
       let from = is_reported.sent t.item t.has in
       (from.0, inr (record { report = t.item; used = t.has; sender = t.is; source = from.1 }))
 
   -- the members are different replicas
-  pub choice_is : IsChoice (group_size g.f) (l ∷ map reporter (replica_at g l B).changes)
+  pub choice_is : IsChoice (group_size g.f) (l ∷ map reporter (replica_at g l B).reports)
   choice_is = record {
     distinct = (leader_out, of.reports.distinct);
-    below = λ y has. elim (or_cases (eqb l y) (is_in (map reporter (replica_at g l B).changes) y) has) [
+    below = λ y has. elim (or_cases (eqb l y) (is_in (map reporter (replica_at g l B).reports) y) has) [
       | inl is ↦ let e = eqb-true l y is in let low = leader_low in omega (arith, e, low)
       | inr among ↦ (others_below y among).0
     ];
   }
 
-  pub full_is : length (l ∷ map reporter (replica_at g l B).changes) ≡ slow_quorum g.f
-  full_is = let long = length-map (replica_at g l B).changes reporter in let full = of.full in omega (arith, long, full)
+  pub full_is : length (l ∷ map reporter (replica_at g l B).reports) ≡ slow_quorum g.f
+  full_is = let long = length-map (replica_at g l B).reports reporter in let full = of.full in omega (arith, long, full)
 
   pub members_are : IsHeldByMany g.f (IsMemberOf g w B)
   members_are = record {
-    members = l ∷ map reporter (replica_at g l B).changes;
+    members = l ∷ map reporter (replica_at g l B).reports;
     choice = choice_is;
     enough = let full = full_is in omega (arith, full);
-    each = λ y has. elim (or_cases (eqb l y) (is_in (map reporter (replica_at g l B).changes) y) has) [
+    each = λ y has. elim (or_cases (eqb l y) (is_in (map reporter (replica_at g l B).reports) y) has) [
       | inl is ↦ (B, inl (sym (eqb-true l y is), refl))
       | inr among ↦ member y among
     ];
@@ -199,16 +199,16 @@ module _ (g : Group) (J : List Record) (w : ℕ) (r : Record) (K : List Record) 
   reported_is at y Q m =
       let k = of.reports.each m.report m.used in
       let s = source_is (report_parcel g w m.report) B Q m.source in
-      let told = shows.view_change m.report.change.sender l _ s.newest s.older s.at (record { has = s.sends; fits = k.sent.fits }) in
+      let shown = shows.view_change m.report.report.sender l _ s.newest s.older s.at (record { has = s.sends; fits = k.sent.fits }) in
       let low = k.fresh in
       subst (λ (z : ℕ). IsReport (notions g J) J w B z Q) m.sender
-      (subst (λ (x : List Record). IsReport (notions g J) J w B m.report.change.sender x) (sym s.is) (record {
+      (subst (λ (x : List Record). IsReport (notions g J) J w B m.report.report.sender x) (sym s.is) (record {
         at = s.at;
-        up = changing_up (replica_at g m.report.change.sender (s.newest ∷ s.older)).status told.changing;
-        view = told.view;
-        fresh = let same = ap (λ (v : List ℕ). slice_index v m.report.change.sender) told.vector in omega (arith, low, same);
+        up = changing_up (replica_at g m.report.report.sender (s.newest ∷ s.older)).status shown.changing;
+        view = shown.view;
+        fresh = let same = ap (λ (v : List ℕ). slice_index v m.report.report.sender) shown.vector in omega (arith, low, same);
         merged = λ i other. let up =
-            k.merged_in i (λ e. other (sym e)) in let same = ap (λ (v : List ℕ). slice_index v i) told.vector in omega (arith, up, same);
+            k.merged_in i (λ e. other (sym e)) in let same = ap (λ (v : List ℕ). slice_index v i) shown.vector in omega (arith, up, same);
         own = λ e. absurd (k.other (sym e));
       }))
 
@@ -288,13 +288,13 @@ module _ (g : Group) (r : Record) (J : List Record) (world : World g (r ∷ J)) 
   arrived x v a normal view some (Starts sender b is leader same) =
       let sent = was_sent g x r J world a sender (messages.StartView b) is in
       let s = sent_at sender x (messages.StartView b) J sent in
-      let told = (shows_before g r J shows).start_view sender x b s.record_of s.older s.at s.sends in
-      at_source sender v s.record_of s.older s.at told.normal (told.view ∙ sym same ∙ view) some
+      let shown = (shows_before g r J shows).start_view sender x b s.record_of s.older s.at s.sends in
+      at_source sender v s.record_of s.older s.at shown.normal (shown.view ∙ sym same ∙ view) some
   arrived x v a normal view some (Returns sender b is leader same) =
       let sent = was_sent g x r J world a sender (messages.StateTell b) is in
       let s = sent_at sender x (messages.StateTell b) J sent in
-      let told = (shows_before g r J shows).state_tell sender x b s.record_of s.older s.at s.sends in
-      at_source sender v s.record_of s.older s.at told.normal (told.view ∙ sym same ∙ view) some
+      let shown = (shows_before g r J shows).state_tell sender x b s.record_of s.older s.at s.sends in
+      at_source sender v s.record_of s.older s.at shown.normal (shown.view ∙ sym same ∙ view) some
 
   newest_begun : (x v : ℕ) → is_normal (replica_at g x (r ∷ J)).status ≡ true → (replica_at g x (r ∷ J)).view ≡ v → 0 < v → IsBegunBefore g v (r ∷ J)
   newest_begun x v normal view some = elim (steps g x r J) [

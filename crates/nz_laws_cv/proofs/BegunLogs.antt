@@ -4,13 +4,13 @@ use Rattle.std.proofs.Common.{◌≡◌, ℕ, ◌≤◌, ◌<◌, true, false, L
 use Rattle.std.specs.Prelude.{min}
 use Rattle.nz_base.specs.Cluster.{leader_of}
 use Rattle.nz_base.specs.Moments.{At}
-use Rattle.nz_merge.specs.declared.change.Change.{Change}
+use Rattle.nz_merge.specs.declared.report.Report.{Report}
 use Rattle.nz_merge.specs.Merged.{greatest, merged}
 use Rattle.nz_machine.specs.declared.event.Record.{Record}
-use Rattle.nz_machine.specs.declared.data.Reported.{Reported}
+use Rattle.nz_machine.specs.declared.data.CollectedReport.{CollectedReport}
 use Rattle.nz_machine.specs.rules.State.{ReplicaData, Group}
 use Rattle.nz_machine.specs.rules.Replicas.{is_changing, is_up}
-use Rattle.nz_machine.specs.rules.Begins.{own_change}
+use Rattle.nz_machine.specs.rules.Begins.{own_report}
 use Rattle.nz_machine.specs.runs.World.{Has, World}
 use Rattle.nz_machine.specs.runs.Incarnations.{replica_at}
 use Rattle.nz_machine.specs.runs.Leading.{leader_at, is_led}
@@ -29,7 +29,7 @@ use Rattle.nz_laws_cv.proofs.Beginnings.{normal_in_is, begun_outcome, begin_of}
 pub record IsBegunLog (g : Group) (w : ℕ) (r : Record) (K : List Record) : Type 0 where
   pub entries : (leader_at g w (r ∷ K)).log.entries ≡ merged g.f (begun_reports g w r K)
   pub commit : (leader_at g w (r ∷ K)).commit
-      ≡ min (length (leader_at g w (r ∷ K)).log.entries) (greatest (map (λ (c : Change). c.commit) (begun_reports g w r K)))
+      ≡ min (length (leader_at g w (r ∷ K)).log.entries) (greatest (map (λ (c : Report). c.commit) (begun_reports g w r K)))
   pub synced : (leader_at g w (r ∷ K)).log.synced ≡ length (leader_at g w (r ∷ K)).log.entries
   pub up : is_up (leader_at g w K).status ≡ true
   pub view : (leader_at g w K).view ≤ w
@@ -46,11 +46,11 @@ begun_log_is g w r K world led not_led =
     b.may.up b.on in
     record {
       entries = ap (λ (s : ReplicaData). s.log.entries) b.is
-          ∙ ap (λ (changes : List Reported). merged g.f (own_change l (replica_at g l K) ∷ map (λ (x : Reported). x.change) changes))
-          (sym (ap (λ (s : ReplicaData). s.changes) b.is));
+          ∙ ap (λ (reports : List CollectedReport). merged g.f (own_report l (replica_at g l K) ∷ map (λ (x : CollectedReport). x.report) reports))
+          (sym (ap (λ (s : ReplicaData). s.reports) b.is));
       commit = ap (λ (s : ReplicaData). s.commit) b.is
           ∙ ap (λ (s : ReplicaData). min (length s.log.entries)
-          (greatest (map (λ (c : Change). c.commit) (own_change l (replica_at g l K) ∷ map (λ (x : Reported). x.change) s.changes))))
+          (greatest (map (λ (c : Report). c.commit) (own_report l (replica_at g l K) ∷ map (λ (x : CollectedReport). x.report) s.reports))))
           (sym b.is);
       synced = ap (λ (s : ReplicaData). s.log.synced) b.is ∙ sym (ap (λ (s : ReplicaData). length s.log.entries) b.is);
       up = b.may.up;
@@ -59,7 +59,7 @@ begun_log_is g w r K world led not_led =
     }
 
 -- a report is its sender's state at the moment at which it was sent
-pub record IsRead (g : Group) (w : ℕ) (B : List Record) (c : Change) : Type 0 where
+pub record IsRead (g : Group) (w : ℕ) (B : List Record) (c : Report) : Type 0 where
   pub moment : List Record
   pub at : At B moment
   pub member : IsMemberOf g w B c.sender moment
@@ -71,21 +71,21 @@ pub record IsRead (g : Group) (w : ℕ) (B : List Record) (c : Change) : Type 0 
   pub entries : (replica_at g c.sender moment).log.entries ≡ c.log
 
 pub report_is_read : (g : Group) (w : ℕ) (r : Record) (K : List Record) → World g (r ∷ K) → Shows g (r ∷ K) → is_led g w (r ∷ K) ≡ true → is_led g w K ≡ false
-    → (x : Reported) → Has (leader_at g w (r ∷ K)).changes x → IsRead g w (r ∷ K) x.change
+    → (x : CollectedReport) → Has (leader_at g w (r ∷ K)).reports x → IsRead g w (r ∷ K) x.report
 report_is_read g w r K world shows led not_led x has =
     let B = r ∷ K in
     let sent = ((begin_of g w r K world shows led not_led).reports.each x has).sent in
     let k = has_source (report_parcel g w x) B sent.has in
     let s = source_is (report_parcel g w x) B k.0 k.1 in
-    let told = shows.view_change x.change.sender (leader_of g.f w) _ s.newest s.older s.at (record { has = s.sends; fits = sent.fits }) in
+    let shown = shows.view_change x.report.sender (leader_of g.f w) _ s.newest s.older s.at (record { has = s.sends; fits = sent.fits }) in
     record {
       moment = s.newest ∷ s.older;
       at = s.at;
       member = inr (record { report = x; used = has; sender = refl; source = k.1 ∙ ap Some s.is });
-      changing = told.changing;
-      view = told.view;
-      last = told.last;
-      synced = told.synced;
-      commit = told.commit;
-      entries = told.entries;
+      changing = shown.changing;
+      view = shown.view;
+      last = shown.last;
+      synced = shown.synced;
+      commit = shown.commit;
+      entries = shown.entries;
     }

@@ -13,7 +13,7 @@ use Rattle.nz_machine.specs.declared.event.Event.{Event}
 use Rattle.nz_machine.specs.declared.event.Record.{Record}
 use Rattle.nz_machine.specs.rules.State.{ReplicaData, Group}
 use Rattle.nz_machine.specs.declared.data.Phase.TheVariants as phases
-use Rattle.nz_machine.specs.declared.data.Reported.{Reported}
+use Rattle.nz_machine.specs.declared.data.CollectedReport.{CollectedReport}
 use Rattle.nz_machine.specs.rules.Replicas.{first_replica, is_normal, is_up, is_rejoining, is_down}
 use Rattle.nz_machine.specs.runs.World.{World}
 use Rattle.nz_machine.specs.runs.Incarnations.{replica_at, incarnation}
@@ -31,7 +31,7 @@ use Rattle.nz_laws_cv.proofs.WithinIncarnation.{sound_at, in_group, first_state,
 use Rattle.nz_laws_cv.proofs.SentShows.{IsSent, sent_more, Shows, shows_before, was_sent}
 use Rattle.nz_laws_cv.proofs.Tellers.{HearsSent, HasTellers, first_tellers, tellers_kept, tellers_stay, log_settled}
 use Rattle.nz_laws_cv.proofs.ToldViews.{HasTells, first_tells, tells_kept, tells_stay}
-use Rattle.nz_laws_cv.proofs.Changes.{HasReports, reports_kept, reports_stay}
+use Rattle.nz_laws_cv.proofs.Reports.{HasReports, reports_kept, reports_stay}
 
 -- ---- what is collected
 
@@ -121,9 +121,9 @@ module _ (f me : ℕ) (e : Event) (heard : Heard) where
     pub body : ViewChangeBody
     pub new : IsFresh heard s sender (messages.ViewChange body) body.vector
     pub may : MayLead f me s.status s.view body.view
-    pub base : List Reported
+    pub base : List CollectedReport
     pub on : Base (with_vector me s body.vector) body.view base
-    pub full : length (collecting me s base sender body).changes ≡ f
+    pub full : length (collecting me s base sender body).reports ≡ f
     pub is : t ≡ law_state (beginning f me (collecting me s base sender body))
 
   -- it was so before, begins a view that it leads, or follows the leader of a view

@@ -19,7 +19,7 @@ pub mod Showing
 pub mod Lists
 pub mod Tellers
 pub mod ToldViews
-pub mod Changes
+pub mod Reports
 pub mod Collected
 pub mod ViewNotions
 pub mod Grounds

@@ -18,7 +18,7 @@ use Rattle.nz_machine.specs.declared.data.Status.TheVariants.{Normal, ViewChange
 use Rattle.nz_machine.specs.declared.data.Phase.{Phase}
 use Rattle.nz_machine.specs.declared.data.Phase.TheVariants as phases
 use Rattle.nz_machine.specs.declared.data.Rejoin.{Rejoin}
-use Rattle.nz_machine.specs.declared.data.Reported.{Reported}
+use Rattle.nz_machine.specs.declared.data.CollectedReport.{CollectedReport}
 use Rattle.nz_log.specs.Synced.{Log}
 use Rattle.nz_machine.specs.rules.Replicas.{first_replica, is_normal, is_changing, is_up, is_rejoining, is_down, crashed_replica}
 use Rattle.nz_machine.specs.rules.Rejoining.{restarted_replica, is_phase}
@@ -200,14 +200,14 @@ module _ (f me : ℕ) (e : Event) (heard : Heard) (fit : HearsFit f me heard) wh
   rejoins_on s p n v r h ours size =
       record { sized = size; normal = h.normal; changing = h.changing; rejoining = h.rejoining; rejoining_last = h.rejoining_last }
 
-  starts : (s : ReplicaData) (v : List ℕ) (w : ℕ) (log : Log) (commit : ℕ) (ack : List ℕ) (changes : List Reported) → length v ≡ replica_count f
-      → IsSound f (law_state (record s { status = Normal; view = w; last = w; log = log; commit = commit; ack = ack; vector = v; changes = changes }))
-  starts s v w log commit ack changes size =
+  starts : (s : ReplicaData) (v : List ℕ) (w : ℕ) (log : Log) (commit : ℕ) (ack : List ℕ) (reports : List CollectedReport) → length v ≡ replica_count f
+      → IsSound f (law_state (record s { status = Normal; view = w; last = w; log = log; commit = commit; ack = ack; vector = v; reports = reports }))
+  starts s v w log commit ack reports size =
       record { sized = size; normal = λ _. refl; changing = λ h. absurd cc; rejoining = λ h. absurd cc; rejoining_last = λ h. absurd cc }
 
-  enters : (s : ReplicaData) (v : List ℕ) (w : ℕ) (log : Log) (changes : List Reported) → s.last < w → length v ≡ replica_count f
-      → IsSound f (law_state (record s { status = ViewChange; view = w; log = log; vector = v; changes = changes }))
-  enters s v w log changes low size =
+  enters : (s : ReplicaData) (v : List ℕ) (w : ℕ) (log : Log) (reports : List CollectedReport) → s.last < w → length v ≡ replica_count f
+      → IsSound f (law_state (record s { status = ViewChange; view = w; log = log; vector = v; reports = reports }))
+  enters s v w log reports low size =
       record { sized = size; normal = λ h. absurd cc; changing = λ _. low; rejoining = λ h. absurd cc; rejoining_last = λ h. absurd cc }
 
   pub collects_low : (s : ReplicaData) (w : ℕ) (u : List ℕ) (base : _) → IsSound f s → is_up s.status ≡ true → Base (with_vector me s u) w base → s.last < w
@@ -246,7 +246,7 @@ module _ (f me : ℕ) (e : Event) (heard : Heard) (fit : HearsFit f me heard) wh
   sound_kept s _ (Collect sender b new may base on) h =
       enters s _ b.view s.log _ (collects_low s b.view b.vector base h may.up on) (merged_size s sender _ b.vector h new)
   sound_kept s _ (Begin sender b new may base on full) h = starts s _ b.view _ _ _ _ (merged_size s sender _ b.vector h new)
-  sound_kept s _ (Start sender b new may) h = starts s _ b.view _ _ s.ack s.changes (merged_size s sender _ b.vector h new)
+  sound_kept s _ (Start sender b new may) h = starts s _ b.view _ _ s.ack s.reports (merged_size s sender _ b.vector h new)
   sound_kept s _ (Fall is) h = crashed_sound f
   sound_kept s _ (Wake nonce is down) h = restarted_sound f nonce
   sound_kept s _ (HearVector sender b new ours) h = rejoins_on s _ _ _ _ h ours (merged_size s sender _ b.vector h new)
@@ -255,7 +255,7 @@ module _ (f me : ℕ) (e : Event) (heard : Heard) (fit : HearsFit f me heard) wh
   sound_kept s _ (HearView sender b new ours) h = rejoins_on s _ _ _ _ h ours (merged_size s sender _ b.vector h new)
   sound_kept s _ (Forget sender b new ours) h = rejoins_on s _ _ _ _ h ours (merged_size s sender _ b.vector h new)
   sound_kept s _ (AskLog sender b new ours enough) h = rejoins_on s _ _ _ _ h ours (merged_size s sender _ b.vector h new)
-  sound_kept s _ (Return sender b new ours late leader) h = starts s _ b.view _ _ s.ack s.changes (merged_size s sender _ b.vector h new)
+  sound_kept s _ (Return sender b new ours late leader) h = starts s _ b.view _ _ s.ack s.reports (merged_size s sender _ b.vector h new)
   sound_kept s _ (Back rejoining is) h =
       record { sized = h.sized; normal = h.normal; changing = h.changing; rejoining = h.rejoining; rejoining_last = h.rejoining_last }
 
@@ -285,12 +285,12 @@ module _ (f me : ℕ) (e : Event) (heard : Heard) (fit : HearsFit f me heard) wh
       takes_in s.vector u me k (omega (arith, size, own)) (omega (arith, in_group, own)) other
 
   -- up before and after, with this vector
-  goes_up : (s : ReplicaData) (a : Status) (w l : ℕ) (log : Log) (commit : ℕ) (ack v : List ℕ) (changes : List Reported) → is_up s.status ≡ true
+  goes_up : (s : ReplicaData) (a : Status) (w l : ℕ) (log : Log) (commit : ℕ) (ack v : List ℕ) (reports : List CollectedReport) → is_up s.status ≡ true
       → is_up a ≡ true
       → s.view ≤ w → s.last ≤ l
       → ((k : ℕ) → slice_index s.vector k ≤ slice_index v k) → slice_index s.vector me ≡ slice_index v me
-      → Goes me s (law_state (record s { status = a; view = w; last = l; log = log; commit = commit; ack = ack; vector = v; changes = changes }))
-  goes_up s a w l log commit ack v changes up after view last places own = record {
+      → Goes me s (law_state (record s { status = a; view = w; last = l; log = log; commit = commit; ack = ack; vector = v; reports = reports }))
+  goes_up s a w l log commit ack v reports up after view last places own = record {
     down = up_not_down a after ∙ sym (up_not_down s.status up);
     view = view;
     last = last;
@@ -327,16 +327,16 @@ module _ (f me : ℕ) (e : Event) (heard : Heard) (fit : HearsFit f me heard) wh
   pub course : (s t : ReplicaData) → me < replica_count f → IsSound f s → Outcome f me e heard s t → Course f me e s t
   course s _ in_group h Stays = GoesOn (goes_same me s s refl) (λ x y. up_no_rejoin s.status y x)
   course s _ in_group h (Release log normal more) =
-      GoesOn (goes_up s s.status s.view s.last log s.commit s.ack s.vector s.changes (normal_up s.status normal) (normal_up s.status normal) (omega arith)
+      GoesOn (goes_up s s.status s.view s.last log s.commit s.ack s.vector s.reports (normal_up s.status normal) (normal_up s.status normal) (omega arith)
       (omega arith) (λ k. omega arith) refl) (λ x y. up_no_rejoin s.status y x)
   course s _ in_group h (Sync sender b new hears le log changed) =
-      GoesOn (goes_up s s.status s.view s.last log _ s.ack _ s.changes (normal_up s.status hears.normal) (normal_up s.status hears.normal) (omega arith)
+      GoesOn (goes_up s s.status s.view s.last log _ s.ack _ s.reports (normal_up s.status hears.normal) (normal_up s.status hears.normal) (omega arith)
       (omega arith) (merges s sender _ b.vector in_group h new) (merges_own s sender _ b.vector in_group h new)) (λ x y. up_no_rejoin s.status y x)
   course s _ in_group h (Tally sender b is normal led same few) =
-      GoesOn (goes_up s s.status s.view s.last s.log _ _ s.vector s.changes (normal_up s.status normal) (normal_up s.status normal) (omega arith)
+      GoesOn (goes_up s s.status s.view s.last s.log _ _ s.vector s.reports (normal_up s.status normal) (normal_up s.status normal) (omega arith)
       (omega arith) (λ k. omega arith) refl) (λ x y. up_no_rejoin s.status y x)
   course s _ in_group h (Merge sender m u new normal) =
-      GoesOn (goes_up s s.status s.view s.last s.log s.commit s.ack _ s.changes (normal_up s.status normal) (normal_up s.status normal) (omega arith)
+      GoesOn (goes_up s s.status s.view s.last s.log s.commit s.ack _ s.reports (normal_up s.status normal) (normal_up s.status normal) (omega arith)
       (omega arith) (merges s sender m u in_group h new) (merges_own s sender m u in_group h new)) (λ x y. up_no_rejoin s.status y x)
   course s _ in_group h (Enter w up later log grown) =
       GoesOn (goes_up s ViewChange w s.last log s.commit s.ack s.vector [] up refl (omega (arith, later)) (omega arith) (λ k. omega arith) refl)

@@ -34,7 +34,7 @@ use Rattle.nz_machine.specs.declared.data.Status.{Status}
 use Rattle.nz_machine.specs.declared.data.Status.TheVariants.{Normal, ViewChange, Rejoining, Down}
 use Rattle.nz_machine.specs.declared.data.Phase.{Phase}
 use Rattle.nz_machine.specs.declared.data.Phase.TheVariants as phases
-use Rattle.nz_machine.specs.declared.data.Reported.{Reported}
+use Rattle.nz_machine.specs.declared.data.CollectedReport.{CollectedReport}
 use Rattle.nz_machine.specs.rules.State.{ReplicaData, Out, Group}
 use Rattle.nz_machine.specs.runs.Hearing.{Heard, heard_as, heard_at}
 use Rattle.nz_machine.specs.rules.Replicas.{is_normal, is_changing, is_up, is_rejoining, is_down, leads, leads_view, hears_leader}
@@ -45,7 +45,7 @@ use Rattle.nz_machine.specs.rules.LogMods.{with_late_entries, with_late_entry, f
 use Rattle.nz_machine.specs.rules.Vectors.{with_vector, unless_stray}
 use Rattle.nz_machine.specs.rules.Views.{in_view_change, enter_view, alarm_rule, view_ask_rule, quiet_timer, change_timer}
 use Rattle.nz_machine.specs.rules.Adopting.{normal_in, after_start, start_view_rule}
-use Rattle.nz_machine.specs.rules.Begins.{changes_of, with_report, without_strays, collect, begin, view_change_rule}
+use Rattle.nz_machine.specs.rules.Begins.{with_own_report, with_report, without_strays, collect, begin, view_change_rule}
 use Rattle.nz_machine.specs.rules.Rejoining.{crash_rule, restart_rule, restarted_replica, with_teller, ask_views, with_new_counter, with_tells}
 use Rattle.nz_machine.specs.rules.Rejoining.{ask_log, ask_again, with_tell, latest_view, vector_ask_rule, vector_tell_rule, rejoin_ask_rule}
 use Rattle.nz_machine.specs.rules.Rejoining.{rejoin_tell_rule, state_ask_rule, state_tell_rule, rejoin_timer, is_phase}
@@ -108,7 +108,7 @@ changing_is Down h = absurd cc
 
 same_changing : (me : ℕ) (s : ReplicaData) (u : List ℕ) (view : ℕ) → s.view ≡ view → is_changing s.status ≡ true
     → law_state (without_strays (with_vector me s u))
-    ≡ law_state (record (in_view_change (with_vector me s u) view) { changes = (without_strays (with_vector me s u)).changes })
+    ≡ law_state (record (in_view_change (with_vector me s u) view) { reports = (without_strays (with_vector me s u)).reports })
 same_changing me s u view same changing =
     let is = changing_is s.status changing in
     λ i. law_state (record (without_strays (with_vector me s u)) { status = is i; view = same i })
@@ -198,22 +198,22 @@ module _ (f me : ℕ) (e : Event) where
       grind (arith, nat_tests, stay, start)
 
   -- the reports of a view that is entered or going on, with one more: it goes on, or begins
-  begin_outcome : (s t : ReplicaData) (sender : ℕ) (b : ViewChangeBody) (base : List Reported)
+  begin_outcome : (s t : ReplicaData) (sender : ℕ) (b : ViewChangeBody) (base : List CollectedReport)
       → IsFresh (Some (Replica sender, messages.ViewChange b)) (law_state s) sender (messages.ViewChange b) b.vector
       → MayLead f me s.status s.view b.view → Base (with_vector me (law_state s) b.vector) b.view base
-      → law_state t ≡ law_state (record (in_view_change (with_vector me s b.vector) b.view) { changes = base })
+      → law_state t ≡ law_state (record (in_view_change (with_vector me s b.vector) b.view) { reports = base })
       → Ends (Some (Replica sender, messages.ViewChange b)) s (collect f me sender b t).0
   unfolding begin
   begin_outcome s t sender b base new may on is =
       let heard : Heard = Some (Replica sender, messages.ViewChange b) in
       let going : Ends heard s (with_report t sender b) =
       subst (λ (u : ReplicaData). Outcome f me e heard (law_state s) (law_state (with_report u sender b))) (sym is) (Collect sender b new may base on) in
-      let begun : length (with_report t sender b).changes ≡ f → Ends heard s (beginning f me (with_report t sender b)) =
-      subst (λ (u : ReplicaData). length (with_report u sender b).changes ≡ f
+      let begun : length (with_report t sender b).reports ≡ f → Ends heard s (beginning f me (with_report t sender b)) =
+      subst (λ (u : ReplicaData). length (with_report u sender b).reports ≡ f
       → Outcome f me e heard (law_state s) (law_state (beginning f me (with_report u sender b))))
       (sym is) (λ full. Begin sender b new may base on full) in
-      let merged_log = merged f (changes_of me (with_report t sender b)) in
-      cond_both (eqb (length (with_report t sender b).changes) f) (begin f me (with_report t sender b))
+      let merged_log = merged f (with_own_report me (with_report t sender b)) in
+      cond_both (eqb (length (with_report t sender b).reports) f) (begin f me (with_report t sender b))
       (with_report t sender b, []) (λ (x : ReplicaData × List Out). Ends heard s x.0)
       (λ full. cond_both (nat_lt MAX_ENTRIES (length merged_log)) (with_report t sender b, []) _ (λ (x : ReplicaData × List Out). Ends heard s x.0)
       (λ _. going) (λ _. begun (eqb-true _ _ full)))
@@ -233,7 +233,7 @@ module _ (f me : ℕ) (e : Event) where
       → Ends (Some (Replica sender, messages.ViewChange b)) s (collect f me sender b (without_strays (with_vector me s b.vector))).0
       =
       λ new may same changing. begin_outcome s (without_strays (with_vector me s b.vector)) sender b
-      (without_strays (with_vector me s b.vector)).changes
+      (without_strays (with_vector me s b.vector)).reports
       (record { is = refl; carries = refl; new = new }) may (Going same changing) (same_changing me s b.vector b.view same changing) in
       let answer : is_stray b.vector sender s.vector ≡ false → is_normal s.status ≡ true → s.view ≡ b.view
       → Ends (Some (Replica sender, messages.ViewChange b)) s (without_strays (with_vector me s b.vector))

@@ -7,7 +7,7 @@ use Rattle.nz_base.specs.declared.key.Key.{Key}
 use Rattle.nz_base.specs.declared.actor.Actor.TheVariants.{Replica}
 use Rattle.nz_base.specs.declared.limits.TheConstants.{MAX_KEYS}
 use Rattle.nz_log.specs.Synced.{Log, IsSound}
-use Rattle.nz_merge.specs.declared.change.Change.{Change}
+use Rattle.nz_merge.specs.declared.report.Report.{Report}
 use Rattle.nz_merge.specs.Merged.{greatest, merged}
 use Rattle.nz_msg.specs.declared.message.LogModBody.{LogModBody}
 use Rattle.nz_msg.specs.declared.message.SyncReportBody.{SyncReportBody}
@@ -21,7 +21,7 @@ use Rattle.nz_msg.specs.declared.message.Message.TheVariants as messages
 use Rattle.nz_machine.specs.declared.event.Event.{Event}
 use Rattle.nz_machine.specs.declared.event.Event.TheVariants.{Crash, Restart}
 use Rattle.nz_machine.specs.declared.data.Phase.TheVariants as phases
-use Rattle.nz_machine.specs.declared.data.Reported.{Reported}
+use Rattle.nz_machine.specs.declared.data.CollectedReport.{CollectedReport}
 use Rattle.nz_machine.specs.rules.State.{ReplicaData}
 use Rattle.nz_machine.specs.runs.Hearing.{Heard}
 use Rattle.nz_machine.specs.rules.Replicas.{is_normal, is_changing, is_up, is_rejoining, is_down, leads, crashed_replica}
@@ -29,7 +29,7 @@ use Rattle.nz_machine.specs.rules.LogMods.{committed_to, with_ack, with_commit}
 use Rattle.nz_machine.specs.rules.Vectors.{with_vector}
 use Rattle.nz_machine.specs.rules.Views.{in_view_change}
 use Rattle.nz_machine.specs.rules.Adopting.{normal_in, after_start}
-use Rattle.nz_machine.specs.rules.Begins.{with_report, without_strays, changes_of, after_begin}
+use Rattle.nz_machine.specs.rules.Begins.{with_report, without_strays, with_own_report, after_begin}
 use Rattle.nz_machine.specs.rules.Rejoining.{restarted_replica, is_phase, with_teller, with_new_counter, ask_views, with_tells, with_tell, latest_view, ask_log}
 use Rattle.nz_machine.proofs.facts.Guards.{HearsLeader, IsFresh, MayLead, HearsStart, Awaits}
 
@@ -38,12 +38,12 @@ abbrev pub law_state : ReplicaData → ReplicaData
 law_state s = record s { clock = 0; results = []; early = []; late = []; origin = []; quiet = 0; since = 0 }
 
 -- the view change of a report's view, with the report beside those that were collected before
-abbrev pub collecting : ℕ → ReplicaData → List Reported → ℕ → ViewChangeBody → ReplicaData
-collecting me s base sender b = with_report (record (in_view_change (with_vector me s b.vector) b.view) { changes = base }) sender b
+abbrev pub collecting : ℕ → ReplicaData → List CollectedReport → ℕ → ViewChangeBody → ReplicaData
+collecting me s base sender b = with_report (record (in_view_change (with_vector me s b.vector) b.view) { reports = base }) sender b
 
 -- the view begins with what is collected
 abbrev pub beginning : ℕ → ℕ → ReplicaData → ReplicaData
-beginning f me s = after_begin f s (merged f (changes_of me s)) (greatest (map (λ (c : Change). c.commit) (changes_of me s)))
+beginning f me s = after_begin f s (merged f (with_own_report me s)) (greatest (map (λ (c : Report). c.commit) (with_own_report me s)))
 
 -- ---- logs
 
@@ -73,9 +73,9 @@ pub data Grown (f me : ℕ) (s : ReplicaData) : Log → Type 0 where
 -- ---- what was tested
 
 -- the reports to which one is added, at the merged vector: none in a view that is entered, else those that are not stray
-pub data Base (s : ReplicaData) (view : ℕ) : List Reported → Type 0 where
+pub data Base (s : ReplicaData) (view : ℕ) : List CollectedReport → Type 0 where
   Anew : s.view < view → Base s view []
-  Going : s.view ≡ view → is_changing s.status ≡ true → Base s view (without_strays s).changes
+  Going : s.view ≡ view → is_changing s.status ≡ true → Base s view (without_strays s).reports
 
 -- ---- the outcomes
 
@@ -101,9 +101,9 @@ pub data Outcome (f me : ℕ) (e : Event) (heard : Heard) (s : ReplicaData) : Re
   Answer : (sender : ℕ) (b : ViewChangeBody) → IsFresh heard s sender (messages.ViewChange b) b.vector → is_normal s.status ≡ true → s.view ≡ b.view
       → Outcome f me e heard s (law_state (without_strays (with_vector me s b.vector)))
   Collect : (sender : ℕ) (b : ViewChangeBody) → IsFresh heard s sender (messages.ViewChange b) b.vector → MayLead f me s.status s.view b.view
-      → (base : List Reported) → Base (with_vector me s b.vector) b.view base → Outcome f me e heard s (law_state (collecting me s base sender b))
+      → (base : List CollectedReport) → Base (with_vector me s b.vector) b.view base → Outcome f me e heard s (law_state (collecting me s base sender b))
   Begin : (sender : ℕ) (b : ViewChangeBody) → IsFresh heard s sender (messages.ViewChange b) b.vector → MayLead f me s.status s.view b.view
-      → (base : List Reported) → Base (with_vector me s b.vector) b.view base → length (collecting me s base sender b).changes ≡ f
+      → (base : List CollectedReport) → Base (with_vector me s b.vector) b.view base → length (collecting me s base sender b).reports ≡ f
       → Outcome f me e heard s (law_state (beginning f me (collecting me s base sender b)))
   Start : (sender : ℕ) (b : StartViewBody) → IsFresh heard s sender (messages.StartView b) b.vector → HearsStart f s sender b.view
       → Outcome f me e heard s (law_state (after_start (with_vector me s b.vector) b))

@@ -25,7 +25,7 @@ use Rattle.nz_machine.specs.runs.Incarnations.{replica_at}
 use Rattle.nz_base.specs.Moments.{At}
 use Rattle.nz_laws_cv.proofs.OutcomeRules.{heard_by}
 use Rattle.nz_machine.proofs.runs.Runs.{FitsOut, has_right}
-use Rattle.nz_machine.proofs.shows.ReadShows as told
+use Rattle.nz_machine.proofs.shows.ReadShows as reads
 use Rattle.nz_base.proofs.Moments.{at_self, at_then}
 use Rattle.nz_machine.proofs.runs.Sources.{source_is, has_source}
 
@@ -147,7 +147,7 @@ shows_before g r J h = shows_at g (r ∷ J) J h (inr (at_self J))
 
 pub was_sent : (g : Group) (m : ℕ) (r : Record) (J : List Record) → World g (r ∷ J) → r.actor ≡ Replica m → (y : ℕ) (message : Message)
     → heard_by g m r.event ≡ Some (Replica y, message) → IsSent J y m message
-was_sent g m r J w a y message is = let s = told.was_sent g r J w (Replica m) (Replica y) message a is in record { has = s.sent; fits = s.fits }
+was_sent g m r J w a y message is = let s = reads.was_sent g r J w (Replica m) (Replica y) message a is in record { has = s.sent; fits = s.fits }
 
 pub sent_more : (r : Record) (J : List Record) (y m : ℕ) (message : Message) → IsSent J y m message → IsSent (r ∷ J) y m message
 sent_more r J y m message s = record { has = has_right r.sends (sent_in J) _ s.has; fits = s.fits }

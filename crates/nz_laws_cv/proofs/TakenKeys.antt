@@ -13,7 +13,7 @@ use Rattle.nz_base.proofs.Prefixes.{prefix_self, prefix_then, prefix_take, prefi
 use Rattle.nz_base.specs.declared.limits.TheConstants.{MAX_KEYS, MAX_ENTRIES}
 use Rattle.nz_log.specs.Synced.{Log, IsSound, synced_part}
 use Rattle.nz_log.proofs.Modifying.{modified_sound}
-use Rattle.nz_log.proofs.LedKeys.{syncs, ModifiesLog, KeepsPrefixes, keeps, told_ahead}
+use Rattle.nz_log.proofs.LedKeys.{syncs, ModifiesLog, KeepsPrefixes, keeps, named_ahead}
 use Rattle.nz_log.proofs.LedKeys as loops
 use Rattle.nz_msg.specs.declared.message.LogModBody.{LogModBody}
 use Rattle.nz_machine.specs.rules.State.{ReplicaData}
@@ -84,11 +84,11 @@ taken s early start count sound le =
     beside : (lead : List Key) → IsPrefix (take s.log.synced (keys_of s.log.entries)) lead → IsPrefix early lead
         → KeepsPrefixes (λ (x : ReplicaData). x.log) may_sync entry_of_id synced_with lead s
         (syncs (λ (x : ReplicaData). x.log) may_sync entry_of_id synced_with s (drop (s.log.synced - start) (take count (drop start early))))
-    beside lead prefix told =
+    beside lead prefix early_prefix =
         let A = keys_of (synced_part s.log) in
         let long = part_long s.log sound in
         let a : IsPrefix A lead = subst (λ (l : List Key). IsPrefix l lead) (sym (part_is s.log)) prefix in
-        let ahead = told_ahead A early lead start count a told (omega (arith, le, long)) in
+        let ahead = named_ahead A early lead start count a early_prefix (omega (arith, le, long)) in
         let ahead_now = subst (λ (n : ℕ). IsPrefix (A ++ drop (n - start) (take count (drop start early))) lead) long ahead in
         keeps (λ (x : ReplicaData). x.log) may_sync entry_of_id synced_with fits lead s
         (drop (s.log.synced - start) (take count (drop start early))) sound ahead_now
@@ -110,8 +110,8 @@ taken s early start count sound le =
           synced = omega (arith, long, long_after, more);
           entries = sym (part_is s.log) ∙ sym (take-length A) ∙ ap (λ (n : ℕ). take n A) long
               ∙ take_of_prefix s.log.synced A (keys_of t.log.entries) within (omega (arith, long));
-          part = λ lead prefix told. let k = beside lead prefix told in subst (λ (l : List Key). IsPrefix l lead) (part_is t.log) k.synced;
-          prefixes = λ lead prefix told. (beside lead prefix told).prefixes;
+          part = λ lead prefix early_prefix. let k = beside lead prefix early_prefix in subst (λ (l : List Key). IsPrefix l lead) (part_is t.log) k.synced;
+          prefixes = λ lead prefix early_prefix. (beside lead prefix early_prefix).prefixes;
         }
 
 -- a log modification of the view's leader

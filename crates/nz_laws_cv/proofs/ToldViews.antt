@@ -12,7 +12,7 @@ use Rattle.nz_machine.specs.declared.event.Event.{Event}
 use Rattle.nz_machine.specs.declared.data.Status.{Status}
 use Rattle.nz_machine.specs.declared.data.Phase.TheVariants as phases
 use Rattle.nz_machine.specs.declared.data.Rejoin.{Rejoin}
-use Rattle.nz_machine.specs.declared.data.Reported.{Reported}
+use Rattle.nz_machine.specs.declared.data.CollectedReport.{CollectedReport}
 use Rattle.nz_log.specs.Synced.{Log}
 use Rattle.nz_machine.specs.declared.data.ToldView.{ToldView}
 use Rattle.nz_machine.specs.rules.Replicas.{first_replica, is_rejoining, crashed_replica}
@@ -85,10 +85,10 @@ module _ (f me : ℕ) (Sent : ℕ → Message → Type 0) where
   first_tells = nothing (law_state (first_replica f)) refl (λ h. cc)
 
   -- a rule of a replica that is up, or comes up
-  up_tells : (s : ReplicaData) (a : Status) (w l : ℕ) (log : Log) (commit : ℕ) (ack v : List ℕ) (changes : List Reported) → (is_rejoining a ≡ true → ⊥)
+  up_tells : (s : ReplicaData) (a : Status) (w l : ℕ) (log : Log) (commit : ℕ) (ack v : List ℕ) (reports : List CollectedReport) → (is_rejoining a ≡ true → ⊥)
       → ((k : ℕ) → slice_index s.vector k ≤ slice_index v k) → HasTells s
-      → HasTells (law_state (record s { status = a; view = w; last = l; log = log; commit = commit; ack = ack; vector = v; changes = changes }))
-  up_tells s a w l log commit ack v changes up grows h = record {
+      → HasTells (law_state (record s { status = a; view = w; last = l; log = log; commit = commit; ack = ack; vector = v; reports = reports }))
+  up_tells s a w l log commit ack v reports up grows h = record {
     distinct = h.distinct;
     each = λ t has. let k =
         h.each t has in record {
@@ -164,13 +164,13 @@ module _ (f me : ℕ) (Sent : ℕ → Message → Type 0) where
     pub tells_kept : (s t : ReplicaData) → IsSound f s → Outcome f me e heard s t → HasTells s → HasTells t
     tells_kept s _ sound Stays h = h
     tells_kept s _ sound (Release log normal more) h =
-        up_tells s s.status s.view s.last log s.commit s.ack s.vector s.changes (λ r. normal_no_rejoin s.status normal r) (λ k. omega arith) h
+        up_tells s s.status s.view s.last log s.commit s.ack s.vector s.reports (λ r. normal_no_rejoin s.status normal r) (λ k. omega arith) h
     tells_kept s _ sound (Sync sender b new hears le log changed) h =
-        up_tells s s.status s.view s.last log _ s.ack _ s.changes (λ r. normal_no_rejoin s.status hears.normal r) (grows s sender _ b.vector sound new) h
+        up_tells s s.status s.view s.last log _ s.ack _ s.reports (λ r. normal_no_rejoin s.status hears.normal r) (grows s sender _ b.vector sound new) h
     tells_kept s _ sound (Tally sender b is normal led same few) h =
-        up_tells s s.status s.view s.last s.log _ _ s.vector s.changes (λ r. normal_no_rejoin s.status normal r) (λ k. omega arith) h
+        up_tells s s.status s.view s.last s.log _ _ s.vector s.reports (λ r. normal_no_rejoin s.status normal r) (λ k. omega arith) h
     tells_kept s _ sound (Merge sender m u new normal) h =
-        up_tells s s.status s.view s.last s.log s.commit s.ack _ s.changes (λ r. normal_no_rejoin s.status normal r) (grows s sender m u sound new) h
+        up_tells s s.status s.view s.last s.log s.commit s.ack _ s.reports (λ r. normal_no_rejoin s.status normal r) (grows s sender m u sound new) h
     tells_kept s _ sound (Enter w up later log grown) h = up_tells s _ w s.last log s.commit s.ack s.vector _ (λ r. cc) (λ k. omega arith) h
     tells_kept s _ sound (Follow sender m u new w up later) h = up_tells s _ w s.last s.log s.commit s.ack _ _ (λ r. cc) (grows s sender m u sound new) h
     tells_kept s _ sound (Answer sender b new normal same) h =

@@ -4,16 +4,16 @@ use Rattle.std.specs.Prelude.{◌≡◌, ℕ, ◌≤◌, List, ◌∷◌, length
 use Rattle.nz_base.specs.Cluster.{replica_count, slow_size, leader_of}
 use Rattle.nz_base.specs.Moments.{At}
 use Rattle.nz_math.specs.Count.{is_in, IsChoice}
-use Rattle.nz_merge.specs.declared.change.Change.{Change}
+use Rattle.nz_merge.specs.declared.report.Report.{Report}
 use Rattle.nz_machine.specs.declared.event.Record.{Record}
-use Rattle.nz_machine.specs.declared.data.Reported.{Reported}
+use Rattle.nz_machine.specs.declared.data.CollectedReport.{CollectedReport}
 use Rattle.nz_machine.specs.declared.data.ToldView.{ToldView}
 use Rattle.nz_machine.specs.rules.State.{Group}
 use Rattle.nz_machine.specs.rules.Replicas.{is_up}
 use Rattle.nz_machine.specs.runs.World.{Has}
 use Rattle.nz_machine.specs.runs.History.{source}
 use Rattle.nz_machine.specs.runs.Leading.{leader_at}
-use Rattle.nz_machine.specs.rules.Begins.{own_change}
+use Rattle.nz_machine.specs.rules.Begins.{own_report}
 use Rattle.nz_machine.specs.runs.Incarnations.{replica_at, counter_at, own_counter, completes, views_used, tell_source}
 use Rattle.nz_machine.specs.runs.Begun.{reports_used, report_parcel}
 
@@ -40,9 +40,9 @@ KnownSince g J = (m : ℕ) (C S K : List Record) (t : ToldView) → At J C → A
 -- The view that begins at B has reports of exactly f different others than its leader, each with its source.
 pub record IsReportedTo (g : Group) (v : ℕ) (B : List Record) : Type 0 where
   pub exact : length (reports_used g v B) ≡ g.f
-  pub senders : AreOthers g (leader_of g.f v) (map (λ (r : Reported). r.change.sender) (reports_used g v B))
-  pub sent : (r : Reported) → Has (reports_used g v B) r → (S : List Record) × (source (report_parcel g v r) B ≡ Some S)
+  pub senders : AreOthers g (leader_of g.f v) (map (λ (r : CollectedReport). r.report.sender) (reports_used g v B))
+  pub sent : (r : CollectedReport) → Has (reports_used g v B) r → (S : List Record) × (source (report_parcel g v r) B ≡ Some S)
 
 -- All reports that a view begins from: its leader's own, from before the record, and the collected ones.
-abbrev pub begun_reports : Group → ℕ → Record → List Record → List Change
-begun_reports g v r K = own_change (leader_of g.f v) (leader_at g v K) ∷ map (λ (x : Reported). x.change) (reports_used g v (r ∷ K))
+abbrev pub begun_reports : Group → ℕ → Record → List Record → List Report
+begun_reports g v r K = own_report (leader_of g.f v) (leader_at g v K) ∷ map (λ (x : CollectedReport). x.report) (reports_used g v (r ∷ K))

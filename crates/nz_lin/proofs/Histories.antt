@@ -24,7 +24,7 @@ use Rattle.nz_laws_commit.proofs.Places.{absent_by}
 use Rattle.nz_laws_commit.proofs.Answering.{IsGiven, given_later}
 use Rattle.nz_laws_commit.proofs.Accepted.{gives, accepted_given, given_sent, given_own, given_few}
 use Rattle.nz_laws_commit.proofs.Counts.{precedes_has, precedes_three}
-use Rattle.nz_laws_commit.proofs.ClientEvents.{told_sent, told_accepted, not_sent_before}
+use Rattle.nz_laws_commit.proofs.ClientEvents.{event_sent, event_accepted, not_sent_before}
 use Rattle.nz_laws_commit.proofs.OwnCommands.{WasSent}
 
 -- ---- the longest
@@ -42,9 +42,9 @@ pub record IsLonger (old new both : List Entry) : Type 0 where
 longer_is : (old new : List Entry) → IsLonger old new (longer old new)
 longer_is old new = let t = longer_by old new (nat_lt (length old) (length new)) refl in record { than_old = t.0; than_new = t.1.0; cases = t.1.1 }
 
-prefix_cases : (g : Group) (told : List ClientEvent) (e : Event) (J : List Record)
-    → (prefix_in g told e J ≡ []) ⊎ ((id : Id) × ((a : Answer) × ((path : Path) × Has told (Accepted id a path))))
-prefix_cases g (Accepted id a path ∷ told) (Deliver p) J = inr (id, (a, (path, inl refl)))
+prefix_cases : (g : Group) (listed : List ClientEvent) (e : Event) (J : List Record)
+    → (prefix_in g listed e J ≡ []) ⊎ ((id : Id) × ((a : Answer) × ((path : Path) × Has listed (Accepted id a path))))
+prefix_cases g (Accepted id a path ∷ listed) (Deliver p) J = inr (id, (a, (path, inl refl)))
 prefix_cases g _ _ J = inl refl
 
 -- ---- the history
@@ -86,11 +86,11 @@ covered_old g r J id a h =
 covered_now : (g : Group) (r : Record) (J : List Record) (id : Id) (a : Answer) (path : Path) → World g (r ∷ J)
     → Has (client_events g r.actor r J) (Accepted id a path) → IsCoveredBy g r J id a
 covered_now g r J id a path w h =
-    let t = gives g r J id a path w (told_accepted g r J id a path h) in
+    let t = gives g r J id a path w (event_accepted g r J id a path h) in
     let long = (longer_is (history g J) (prefix_in g (client_events g r.actor r J) r.event J)).than_new in
     record {
       prefix = t.prefix;
-      accepted = inl (record { id = id; answer = a; path = path; brought = t.parcel; told = h; event = t.event; prefix = t.found });
+      accepted = inl (record { id = id; answer = a; path = path; brought = t.parcel; accepted_there = h; event = t.event; prefix = t.found });
       view = view_of t.reply;
       given = t.given;
       short = omega (arith, long, ap length t.is);
@@ -111,7 +111,7 @@ covered_at g r J id a h =
 absent_now : (g : Group) (r : Record) (J : List Record) (other : Id) (command : List ℕ) (v : ℕ) (id : Id) (a : Answer) (P : List Entry) → World g J
     → Has (client_events g r.actor r J) (Sent other command) → IsGiven g J v id a P → has_id (keys_of P) other ≡ false
 absent_now g r J other command v id a P w h given =
-    let new = told_sent g r J other command h in
+    let new = event_sent g r J other command h in
     absent_by other P (λ e within same. not_sent_before g r J other e.command new
     (subst (λ (i : Id). Has (events g J) (Sent i e.command)) same (given_sent g J w v id a P given e within)))
 
@@ -148,8 +148,8 @@ covered_in g r J w h id a path k = elim (has_split (events g J) (client_events g
 accepted_now : (g : Group) (r : Record) (J : List Record) (id : Id) (a : Answer) (path : Path) → World g (r ∷ J)
     → Has (client_events g r.actor r J) (Accepted id a path) → IsAccepted g (prefix_in g (client_events g r.actor r J) r.event J) (r ∷ J)
 accepted_now g r J id a path w h =
-    let t = gives g r J id a path w (told_accepted g r J id a path h) in
-    inl (record { id = id; answer = a; path = path; brought = t.parcel; told = h; event = t.event; prefix = t.found ∙ ap Some (sym t.is) })
+    let t = gives g r J id a path w (event_accepted g r J id a path h) in
+    inl (record { id = id; answer = a; path = path; brought = t.parcel; accepted_there = h; event = t.event; prefix = t.found ∙ ap Some (sym t.is) })
 
 ends_new : (g : Group) (r : Record) (J : List Record) → World g (r ∷ J)
     → (prefix_in g (client_events g r.actor r J) r.event J ≡ []) ⊎ IsAccepted g (prefix_in g (client_events g r.actor r J) r.event J) (r ∷ J)

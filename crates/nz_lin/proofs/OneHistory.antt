@@ -52,7 +52,7 @@ history_of_pairs g J w pairs =
     record {
       once = history_own g J w;
       asked = history_sent g J w;
-      answered = λ id a path told. answered g J pairs h id a (h.covers id a path told);
+      answered = λ id a path accepted. answered g J pairs h id a (h.covers id a path accepted);
       in_order = λ a b answer path command before. ordered g J pairs h a b answer (h.in_order a answer path b command before);
     }
 

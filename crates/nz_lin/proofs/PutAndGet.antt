@@ -73,11 +73,11 @@ stamped : List Record
 stamped = come group 1 (Client 0) (Proxy 0) (play group asked (Proxy 0) (Tick 2000))
 
 -- its three timed messages come
-told : List Record
-told = come group 2 (Proxy 0) (Replica 2) (come group 2 (Proxy 0) (Replica 1) (come group 2 (Proxy 0) (Replica 0) (all_tick group 3000 stamped)))
+arrived : List Record
+arrived = come group 2 (Proxy 0) (Replica 2) (come group 2 (Proxy 0) (Replica 1) (come group 2 (Proxy 0) (Replica 0) (all_tick group 3000 stamped)))
 
 released : List Record
-released = all_tick group 13000 told
+released = all_tick group 13000 arrived
 
 decided : List Record
 decided =
@@ -92,11 +92,12 @@ once = come group 5 (Proxy 0) (Client 0) (play group decided (Client 0) (Tick 15
 again_stamped : List Record
 again_stamped = come group 1 (Client 0) (Proxy 0) (play group once (Proxy 0) (Tick 16000))
 
-again_told : List Record
-again_told = come group 2 (Proxy 0) (Replica 2) (come group 2 (Proxy 0) (Replica 1) (come group 2 (Proxy 0) (Replica 0) (all_tick group 17000 again_stamped)))
+again_arrived : List Record
+again_arrived =
+    come group 2 (Proxy 0) (Replica 2) (come group 2 (Proxy 0) (Replica 1) (come group 2 (Proxy 0) (Replica 0) (all_tick group 17000 again_stamped)))
 
 again_released : List Record
-again_released = all_tick group 18000 again_told
+again_released = all_tick group 18000 again_arrived
 
 again_decided : List Record
 again_decided =
@@ -110,8 +111,8 @@ ended = come group 5 (Proxy 0) (Client 0) (play group again_decided (Client 0) (
 
 -- each record may follow the older ones
 is_run : World group ended
-unfolding group play arrive come all_tick put get first second first_entry second_entry asked stamped told released
-    decided once again_stamped again_told again_released again_decided ended state_after encode_of decode_of frame refusal
+unfolding group play arrive come all_tick put get first second first_entry second_entry asked stamped arrived released
+    decided once again_stamped again_arrived again_released again_decided ended state_after encode_of decode_of frame refusal
     number_bytes number_at run_at limited_at optional_at items_put items_at body_at envelope_for wait_rule accept_rule
     clock_rule stamp_rule reply_rule request_rule release_rule releases decision count_below key_bytes first_words
     schedule rounds compress hash_after digest_bytes sha1 apply apply_bytes store_from replies_from key_at value_at
@@ -134,12 +135,12 @@ is_run =
     let at_stamped = came group 1 (Client 0) (Proxy 0) (play group asked (Proxy 0) (Tick 2000))
     (played group asked (Proxy 0) (Tick 2000) at_asked (omega arith) (omega arith)) (omega arith) in
     let here = all_tick group 3000 stamped in
-    let at_told =
+    let at_arrived =
     came group 2 (Proxy 0) (Replica 2) (come group 2 (Proxy 0) (Replica 1) (come group 2 (Proxy 0) (Replica 0) here))
     (came group 2 (Proxy 0) (Replica 1) (come group 2 (Proxy 0) (Replica 0) here)
     (came group 2 (Proxy 0) (Replica 0) here
     (all_ticked group 3000 stamped at_stamped (omega arith) (omega arith)) (omega arith)) (omega arith)) (omega arith) in
-    let at_released = all_ticked group 13000 told at_told (omega arith) (omega arith) in
+    let at_released = all_ticked group 13000 arrived at_arrived (omega arith) (omega arith) in
     let now = play group released (Proxy 0) (Tick 14000) in
     let at_decided =
     came group 3 (Replica 2) (Proxy 0) (come group 3 (Replica 1) (Proxy 0) (come group 3 (Replica 0) (Proxy 0) now))
@@ -156,7 +157,7 @@ is_run =
     (came group 2 (Proxy 0) (Replica 1) (come group 2 (Proxy 0) (Replica 0) there)
     (came group 2 (Proxy 0) (Replica 0) there
     (all_ticked group 17000 again_stamped again (omega arith) (omega arith)) (omega arith)) (omega arith)) (omega arith) in
-    let again_out = all_ticked group 18000 again_told again_heard (omega arith) (omega arith) in
+    let again_out = all_ticked group 18000 again_arrived again_heard (omega arith) (omega arith) in
     let then_now = play group again_released (Proxy 0) (Tick 19000) in
     let at_end =
     came group 3 (Replica 2) (Proxy 0) (come group 3 (Replica 1) (Proxy 0) (come group 3 (Replica 0) (Proxy 0) then_now))
@@ -182,8 +183,8 @@ record IsAsWorked : Type 0 where
   answers : replies (commands (history group ended)) ≡ Done ∷ Value (49 ∷ []) ∷ []
 
 as_worked : IsAsWorked
-unfolding group play arrive come all_tick put get first second first_entry second_entry asked stamped told released
-    decided once again_stamped again_told again_released again_decided ended state_after encode_of decode_of frame refusal
+unfolding group play arrive come all_tick put get first second first_entry second_entry asked stamped arrived released
+    decided once again_stamped again_arrived again_released again_decided ended state_after encode_of decode_of frame refusal
     number_bytes number_at run_at limited_at optional_at items_put items_at body_at envelope_for wait_rule accept_rule
     clock_rule stamp_rule reply_rule request_rule release_rule releases decision count_below key_bytes first_words
     schedule rounds compress hash_after digest_bytes sha1 apply apply_bytes store_from replies_from key_at value_at
@@ -212,7 +213,7 @@ second_list = map entry_key (first_entry ∷ second_entry ∷ [])
 -- each replica replied over the first entry, and then over both
 lists : replied_lists group ended ≡ second_list ∷ second_list ∷ second_list ∷ first_list ∷ first_list ∷ first_list ∷ []
 unfolding first_list second_list group play arrive come all_tick put get first second first_entry second_entry asked
-    stamped told released decided once again_stamped again_told again_released again_decided ended state_after encode_of
+    stamped arrived released decided once again_stamped again_arrived again_released again_decided ended state_after encode_of
     decode_of frame refusal number_bytes number_at run_at limited_at optional_at items_put items_at body_at envelope_for
     wait_rule accept_rule clock_rule stamp_rule reply_rule request_rule release_rule releases decision count_below
     key_bytes first_words schedule rounds compress hash_after digest_bytes sha1 apply apply_bytes store_from replies_from

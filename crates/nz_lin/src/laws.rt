@@ -72,8 +72,8 @@ pub fn one_run_in_order()
     ensures { (s : Scenario) (J K : List Record) → World (group_of s) J → World (group_of s) K → InOrder s J → InOrder s K → J ≡ K }
 {}
 
-/// What clients are told by nodes that each keep to the machine by itself, over links that deliver only what was sent
-/// and with nonces that do not come twice, is what one store answers that executes the history, on the premise on digests.
+/// The answers that clients accept are those of one store that executes the history, on the premise on digests: where nodes
+/// each keep to the machine by themselves, over links that deliver only what was sent, and no nonce comes twice.
 pub fn deployment_has_one_history()
     ensures { (g : Group) (J : List Record) → IsDeployment g J → NoCollision g J → Lin (events g J) (history g J) }
 {}

@@ -65,11 +65,11 @@ sent_clean c script num zero small h = tt
 sent_clean c script num (suc more) small h =
     ((small, clean_at c script (num + 1 - 1) h), sent_clean c script (num + 1) more small h)
 
-told_clean : (g : Group) (a : Actor) (r : Record) (J : List Record) → IsGroup g → IsMember g a → AreClean g.scripts
+client_events_clean : (g : Group) (a : Actor) (r : Record) (J : List Record) → IsGroup g → IsMember g a → AreClean g.scripts
     → AllByRecursion IsCleanEvent (client_events g a r J)
-told_clean g (Replica m) r J group member clean = tt
-told_clean g (Proxy p) r J group member clean = tt
-told_clean g (Client c) r J group member clean =
+client_events_clean g (Replica m) r J group member clean = tt
+client_events_clean g (Proxy p) r J group member clean = tt
+client_events_clean g (Client c) r J group member clean =
     let before = state_after g (Client c) J in
     let after = state_after g (Client c) (r ∷ J) in
     let most = group.most_clients in
@@ -81,7 +81,7 @@ events_clean : (g : Group) (J : List Record) → World g J → AreClean g.script
 events_clean g [] w clean = tt
 events_clean g (r ∷ J) w clean =
     all_append IsCleanEvent (events g J) (client_events g r.actor r J) (events_clean g J w.1 clean)
-    (told_clean g r.actor r J (group_of g J w.1) w.0.member clean)
+    (client_events_clean g r.actor r J (group_of g J w.1) w.0.member clean)
 
 all_by : (H : List Entry) → ((e : Entry) → Has H e → IsCleanEntry e) → IsClean H
 all_by [] h = tt

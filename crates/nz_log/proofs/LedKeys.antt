@@ -217,16 +217,16 @@ no_more {X} (x ∷ xs) p = absurd (let e : ◌≡◌ {A = List X} [] (x ∷ (xs 
 
 -- keys of an earlier leader's log, from start on, come next after a prefix of the leader's log that is no shorter
 -- than start
-pub told_ahead : {X : Type 0} (A early lead : List X) (start count : ℕ) → IsPrefix A lead → IsPrefix early lead → start ≤ length A
+pub named_ahead : {X : Type 0} (A early lead : List X) (start count : ℕ) → IsPrefix A lead → IsPrefix early lead → start ≤ length A
     → IsPrefix (A ++ drop (length A - start) (take count (drop start early))) lead
-told_ahead {X} A early lead start count a b le =
-    let told = drop start early in
+named_ahead {X} A early lead start count a b le =
+    let named = drop start early in
     let known = length A - start in
-    let some = drop known (take count told) in
-    let more : IsPrefix some (drop known (take count told ++ drop count told)) = prefix_drop known (take count told) (drop count told) in
+    let some = drop known (take count named) in
+    let more : IsPrefix some (drop known (take count named ++ drop count named)) = prefix_drop known (take count named) (drop count named) in
     let place : start + known ≡ length A = omega (arith, le) in
-    let rest : drop known (take count told ++ drop count told) ≡ drop (length A) early =
-    ap (drop known) (take-append-drop count told) ∙ drop-drop known start early ∙ ap (λ (n : ℕ). drop n early) place in
+    let rest : drop known (take count named ++ drop count named) ≡ drop (length A) early =
+    ap (drop known) (take-append-drop count named) ∙ drop-drop known start early ∙ ap (λ (n : ℕ). drop n early) place in
     let prefix : IsPrefix some (drop (length A) early) = subst (IsPrefix some) rest more in
     elim (cases_lt (length early) (length A)) [
       | inl short ↦

@@ -91,7 +91,7 @@ place_only (e ∷ es) i (suc place) own at =
     ]
 
 -- a search shows whether the id is held
-pub search_tells : (found : Option ℕ) (es : List Entry) (i : Id) → IfSome found (λ place. IsFirstPlace es i place)
+pub search_shows : (found : Option ℕ) (es : List Entry) (i : Id) → IfSome found (λ place. IsFirstPlace es i place)
     → IfNone found (has_id (keys_of es) i ≡ false) → is_some found ≡ has_id (keys_of es) i
-search_tells None es i at away = sym away
-search_tells (Some place) es i at away = sym (held_at es i place (first_is_place es i place at))
+search_shows None es i at away = sym away
+search_shows (Some place) es i at away = sym (held_at es i place (first_is_place es i place at))

@@ -10,7 +10,7 @@ use nz_base::{Entry, EntryList, Id, MAX_ENTRIES, NoMemory};
 use nz_digest::Digest;
 use std::alloc::Global;
 
-/// What takes memory, and tells where from.
+/// What takes memory, and says where from.
 pub trait Allocating {
     fn alloc(&self) -> Global;
 }

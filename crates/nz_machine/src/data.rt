@@ -2,7 +2,7 @@
 
 use nz_base::List;
 use nz_cv::CrashVector;
-use nz_merge::Change;
+use nz_merge::Report;
 
 /// A replica's mode. Only one in normal operation takes requests.
 #[derive(Clone, Copy, Debug, PartialEq, Eq)]
@@ -32,10 +32,10 @@ pub struct Attempt {
 
 /// A view change as the new view's leader collects it.
 #[derive(Debug, Drop)]
-pub struct Reported {
+pub struct CollectedReport {
     /// The sender's crash vector, by which the report may become stray.
     pub vector: CrashVector,
-    pub change: Change,
+    pub report: Report,
 }
 
 /// What a replica that rejoins asks the others for, in this order.

@@ -65,7 +65,7 @@ pub enum Event {
     Cut(u32, SharedParcel),
     /// The actor's clock reads this many clock units.
     Tick(u64),
-    /// The actor is told that the leader is lost.
+    /// The actor learns that the leader is lost.
     Alarm,
     /// The actor forgets all, and is down.
     Crash,

@@ -47,7 +47,7 @@ pub use answers::copy_answer;
 pub use client_event::{ClientEvent, EventAt, EventList};
 pub use client_progress::{Clients, Progress};
 pub use cores::Core;
-pub use data::{Attempt, Origin, Phase, Rejoin, Reported, Status, ToldView};
+pub use data::{Attempt, CollectedReport, Origin, Phase, Rejoin, Status, ToldView};
 pub use event::{Event, Parcel, Record, SharedParcel};
 pub use event_notes::{Notes, client_events_in};
 pub use forgotten::Forgotten;

@@ -3,29 +3,32 @@
 ghost use Rattle.std.specs.Prelude.{◌≡◌, ◌∷◌, ◌++◌, [], ◌==◌, not, length, map, filter, replicate, if◌then◌else◌, IfOk, OnOk, OnErr};
 ghost use Rattle.std.specs.List.{list_any};
 ghost use Rattle.nz_cv.specs.Vectors as vectors;
-ghost use Rattle.nz_merge.specs.declared.change.Change.{Change as ChangeModel};
+ghost use Rattle.nz_merge.specs.declared.report.Report.{Report as ReportModel};
 ghost use Rattle.nz_merge.specs.Merged.{greatest};
 ghost use Rattle.nz_merge.specs.Sender.{HaveOwnSenders};
-ghost use Rattle.nz_machine.specs.declared.data.Reported.{Reported as ReportedModel};
+ghost use Rattle.nz_machine.specs.declared.data.CollectedReport.{CollectedReport as CollectedReportModel};
 ghost use Rattle.nz_machine.specs.declared.data.ToldView.{ToldView as ToldViewModel};
 
-use super::data::{Reported, ToldView};
+use super::data::{CollectedReport, ToldView};
 use nz_base::{List, NoMemory, TryCopy};
 use nz_cv::CrashVector;
-use nz_merge::{Change, ViewChanges};
+use nz_merge::{Report, Reports};
 use std::alloc::Global;
 
 /// Collects the report in place of an earlier one of its sender.
-pub fn replace_report(changes: &mut Vec<Reported>, reported: Reported) -> Result<(), NoMemory>
-    ensures ok { OnOk result (changes.new.items
-        ≡ filter (λ (r : ReportedModel). not (r.change.sender == reported.change.sender)) changes.old.items ++ reported ∷ []) }
-    ensures err { OnErr result (changes.new.items ≡ changes.old.items) }
+pub fn replace_report(
+    reports: &mut Vec<CollectedReport>,
+    reported: CollectedReport,
+) -> Result<(), NoMemory>
+    ensures ok { OnOk result (reports.new.items
+        ≡ filter (λ (r : CollectedReportModel). not (r.report.sender == reported.report.sender)) reports.old.items ++ reported ∷ []) }
+    ensures err { OnErr result (reports.new.items ≡ reports.old.items) }
 {
     // No report is lost where there is no memory for this one.
-    changes.reserve(1)?;
-    let sender = reported.change.sender;
-    changes.retain(|r| r.change.sender != sender);
-    changes.push_reserved(reported);
+    reports.reserve(1)?;
+    let sender = reported.report.sender;
+    reports.retain(|r| r.report.sender != sender);
+    reports.push_reserved(reported);
     Ok(())
 }
 
@@ -37,10 +40,10 @@ pub fn clear_reports(ack: &mut Vec<u32>)
 }
 
 /// Drops the reports that the vector makes stray.
-pub fn drop_stray_reports(changes: &mut Vec<Reported>, known: &CrashVector)
-    ensures { changes.new.items ≡ filter (λ (r : ReportedModel). not (vectors.is_stray r.vector r.change.sender known.now)) changes.old.items }
+pub fn drop_stray_reports(reports: &mut Vec<CollectedReport>, known: &CrashVector)
+    ensures { reports.new.items ≡ filter (λ (r : CollectedReportModel). not (vectors.is_stray r.vector r.report.sender known.now)) reports.old.items }
 {
-    changes.retain(|r| !r.vector.is_stray(r.change.sender, known));
+    reports.retain(|r| !r.vector.is_stray(r.report.sender, known));
 }
 
 /// The views that were told without an earlier one of the sender, with this one, and without those that are stray.
@@ -96,43 +99,43 @@ pub fn note_teller(tellers: &mut List<u8>, sender: u8) -> Result<(), NoMemory>
     Ok(())
 }
 
-fn copy_change(alloc: Global, change: &Change) -> Result<Change, NoMemory>
-    ensures { IfOk result (λ copy. copy ≡ change.now) }
+fn copy_report(alloc: Global, report: &Report) -> Result<Report, NoMemory>
+    ensures { IfOk result (λ copy. copy ≡ report.now) }
 {
-    Ok(Change {
-        sender: change.sender,
-        last: change.last,
-        synced: change.synced,
-        commit: change.commit,
-        log: change.log.copy(alloc)?,
+    Ok(Report {
+        sender: report.sender,
+        last: report.last,
+        synced: report.synced,
+        commit: report.commit,
+        log: report.log.copy(alloc)?,
     })
 }
 
 /// The own report, and after it copies of the collected ones.
-#[tactic(auto, using(crate::proofs::facts::Collects::own_reported, crate::proofs::facts::Collects::changes_more))]
-pub fn all_changes(
+#[tactic(auto, using(crate::proofs::facts::Collects::own_reported, crate::proofs::facts::Collects::reports_more))]
+pub fn all_reports(
     alloc: Global,
-    own: Change,
-    reports: &[Reported],
-) -> Result<ViewChanges, NoMemory>
-    requires { HaveOwnSenders (own ∷ map (λ (r : ReportedModel). r.change) reports.now) }
-    ensures { IfOk result (λ changes. changes ≡ own ∷ map (λ (r : ReportedModel). r.change) reports.now) }
+    own: Report,
+    collected: &[CollectedReport],
+) -> Result<Reports, NoMemory>
+    requires { HaveOwnSenders (own ∷ map (λ (r : CollectedReportModel). r.report) collected.now) }
+    ensures { IfOk result (λ reports. reports ≡ own ∷ map (λ (r : CollectedReportModel). r.report) collected.now) }
 {
-    let mut changes = ViewChanges::new(alloc);
-    changes.push(own)?;
-    for reported in reports {
-        changes.push(copy_change(alloc, &reported.change)?)?;
+    let mut reports = Reports::new(alloc);
+    reports.push(own)?;
+    for reported in collected {
+        reports.push(copy_report(alloc, &reported.report)?)?;
     }
-    Ok(changes)
+    Ok(reports)
 }
 
 /// How many entries the reports know to be committed at most.
-pub fn greatest_commit(changes: &[Change]) -> u32
-    ensures { result ≡ greatest (map (λ (c : ChangeModel). c.commit) changes.now) }
+pub fn greatest_commit(reports: &[Report]) -> u32
+    ensures { result ≡ greatest (map (λ (c : ReportModel). c.commit) reports.now) }
 {
     let mut commit = 0;
-    for change in changes {
-        commit = commit.max(change.commit);
+    for report in reports {
+        commit = commit.max(report.commit);
     }
     commit
 }

@@ -26,7 +26,7 @@ mod viewing;
 
 use super::answers::copy_answer;
 use super::buffers::{take_in, vector_fits};
-use super::data::{Origin, Phase, Rejoin, Reported, Status};
+use super::data::{CollectedReport, Origin, Phase, Rejoin, Status};
 use super::held::Held;
 use indexmap::IndexMap;
 use nz_base::{Actor, Cluster, Entry, Id, List, MAX_CLOCK, MAX_DELAY, MAX_ENTRIES, NoMemory};
@@ -61,7 +61,7 @@ pub struct Parts {
     /// Ticks since it last began to wait for others.
     pub since: u8,
     /// What the leader of a view collects to begin it.
-    pub changes: Vec<Reported>,
+    pub reports: Vec<CollectedReport>,
     pub rejoin: Rejoin,
     pub alloc: Global,
 }
@@ -89,7 +89,7 @@ fn forget_waiting(parts: &mut Parts)
     parts.held.early = Early::new(parts.alloc);
     parts.held.late = Late::new(parts.alloc);
     parts.origin = IndexMap::new(parts.alloc);
-    parts.changes = Vec::new(parts.alloc);
+    parts.reports = Vec::new(parts.alloc);
     parts.ack.as_mut_slice().fill(0);
 }
 
@@ -159,7 +159,7 @@ impl ReplicaState {
                 ack,
                 quiet: 0,
                 since: 0,
-                changes: Vec::new(alloc),
+                reports: Vec::new(alloc),
                 rejoin: first_rejoin(alloc),
                 alloc,
             },

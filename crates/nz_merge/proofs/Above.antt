@@ -8,7 +8,7 @@ use Rattle.nz_base.specs.Log.{keys_of, is_above_last}
 use Rattle.nz_base.proofs.Booleans.{true_and_false}
 use Rattle.nz_base.proofs.Keys.{key_below-trans, never_self, never_both}
 use Rattle.nz_merge.specs.Merged.{put_in_order, put_all_in_order, all_keys, keys_above, holders, is_taken, later_keys}
-use Rattle.nz_merge.specs.declared.change.Change.{Change}
+use Rattle.nz_merge.specs.declared.report.Report.{Report}
 use Rattle.nz_merge.proofs.Ordering.{put_cases}
 
 -- ---- above the last of some keys
@@ -33,7 +33,8 @@ IsUpward p = (k x : Key) → p k ≡ true → key_below k x ≡ true → p x ≡
 
 -- a key that is the first one is not put again
 put_first : (key : Key) (keys : List Key) → put_in_order key (key ∷ keys) ≡ key ∷ keys
-put_first key keys = put_cases (λ (xs : List Key). xs ≡ key ∷ keys) key key keys (λ lower. never_self key lower) (λ same. refl) (λ higher. never_self key higher)
+put_first key keys =
+    put_cases (λ (xs : List Key). xs ≡ key ∷ keys) key key keys (λ lower. never_self key lower) (λ same. refl) (λ higher. never_self key higher)
 
 -- a key above the first one is put among the others
 put_later : (key k : Key) (keys : List Key) → key_below k key ≡ true → put_in_order key (k ∷ keys) ≡ k ∷ put_in_order key keys
@@ -81,41 +82,41 @@ filter_put_all p up others (k ∷ keys) =
 -- ---- going through the keys
 
 -- a key that is not above the last is not taken
-passed_over : (limit : ℕ) (changes : List Change) (taken : List Key) (k : Key) → is_above_last taken k ≡ false → is_taken limit changes taken k ≡ false
-passed_over limit changes taken k away =
-    elim (cases_Bool (leb limit (length (holders changes k)))) [
+passed_over : (limit : ℕ) (reports : List Report) (taken : List Key) (k : Key) → is_above_last taken k ≡ false → is_taken limit reports taken k ≡ false
+passed_over limit reports taken k away =
+    elim (cases_Bool (leb limit (length (holders reports k)))) [
       | inl enough ↦ rw (enough, away) refl
       | inr few ↦ rw few refl
     ]
 
 -- keys that are not above a base are passed over, if what is above what was taken is above the base
-later_above : (limit : ℕ) (changes : List Change) (base taken keys : List Key)
+later_above : (limit : ℕ) (reports : List Report) (base taken keys : List Key)
     → ((x : Key) → is_above_last taken x ≡ true → is_above_last base x ≡ true)
-    → later_keys limit changes taken (filter (is_above_last base) keys) ≡ later_keys limit changes taken keys
+    → later_keys limit reports taken (filter (is_above_last base) keys) ≡ later_keys limit reports taken keys
 unfolding later_keys
-later_above limit changes base taken [] up = refl
-later_above limit changes base taken (k ∷ keys) up =
+later_above limit reports base taken [] up = refl
+later_above limit reports base taken (k ∷ keys) up =
     elim (cases_Bool (is_above_last base k)) [
       | inl above ↦
           let more : (x : Key) → is_above_last (taken ++ k ∷ []) x ≡ true → is_above_last base x ≡ true =
           λ x h. above_up base k x above (sym (last_of_more taken k x) ∙ h) in
-          elim (cases_Bool (is_taken limit changes taken k)) [
-            | inl joins ↦ rw (above, joins) (ap (λ (xs : List Key). k ∷ xs) (later_above limit changes base (taken ++ k ∷ []) keys more))
-            | inr away ↦ rw (above, away) (later_above limit changes base taken keys up)
+          elim (cases_Bool (is_taken limit reports taken k)) [
+            | inl joins ↦ rw (above, joins) (ap (λ (xs : List Key). k ∷ xs) (later_above limit reports base (taken ++ k ∷ []) keys more))
+            | inr away ↦ rw (above, away) (later_above limit reports base taken keys up)
           ]
       | inr below ↦
           let low : is_above_last taken k ≡ false = elim (cases_Bool (is_above_last taken k)) [
             | inl high ↦ true_and_false (is_above_last base k) (up k high) below
             | inr low ↦ low
           ] in
-          let away = passed_over limit changes taken k low in
-          rw (below, away) (later_above limit changes base taken keys up)
+          let away = passed_over limit reports taken k low in
+          rw (below, away) (later_above limit reports base taken keys up)
     ]
 
 -- of the keys above what was taken, the same are taken as of all keys
-pub same_later : (limit : ℕ) (changes : List Change) (taken : List Key)
-    → later_keys limit changes taken (keys_above taken changes) ≡ later_keys limit changes taken (all_keys changes)
-same_later limit changes taken =
-    let keys = flat_map (λ c. keys_of c.log) changes in
-    ap (λ (xs : List Key). later_keys limit changes taken xs) (sym (filter_put_all (is_above_last taken) (above_up taken) [] keys))
-    ∙ later_above limit changes taken taken (all_keys changes) (λ x h. h)
+pub same_later : (limit : ℕ) (reports : List Report) (taken : List Key)
+    → later_keys limit reports taken (keys_above taken reports) ≡ later_keys limit reports taken (all_keys reports)
+same_later limit reports taken =
+    let keys = flat_map (λ c. keys_of c.log) reports in
+    ap (λ (xs : List Key). later_keys limit reports taken xs) (sym (filter_put_all (is_above_last taken) (above_up taken) [] keys))
+    ∙ later_above limit reports taken taken (all_keys reports) (λ x h. h)

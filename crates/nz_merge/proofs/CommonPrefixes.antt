@@ -12,12 +12,12 @@ use Rattle.nz_base.specs.Log.{keys_of, has_key, AreRising, HaveOwnIds}
 use Rattle.nz_base.proofs.Names.{key_eq_self}
 use Rattle.nz_base.proofs.Logs.{has_append, has_in_prefix, has_back, prefix_below, rising_prefix, own_in_prefix}
 use Rattle.nz_merge.specs.Merged.{begins_with, IsFit, merged_synced_part, holders, all_keys, later_keys, entry_in, merged_from, count_beginning}
-use Rattle.nz_merge.specs.declared.change.Change.{Change}
+use Rattle.nz_merge.specs.declared.report.Report.{Report}
 use Rattle.nz_merge.proofs.Beginnings.{begins_append, rest_of, AreAmong}
 use Rattle.nz_merge.proofs.Ordering.{in_order_rising, has_in_order}
 use Rattle.nz_merge.proofs.Walk.{IsSettled, walk}
 
--- ---- counting changes
+-- ---- counting reports
 
 -- two tests that are passed by more than there are have one in common
 pub both_pass : {X : Type 0} (p q : X → Bool) (xs : List X) → length (filter p xs) + length (filter q xs) ≤ length xs + length (filter (λ x. p x && q x) xs)
@@ -55,14 +55,14 @@ more_pass p q (x ∷ xs) h = by_tests (p x) (q x) x (filter p xs) (filter q xs) 
 -- ---- keys of logs
 
 -- a key of a log that passes a test is among all keys
-pub among_all : (p : Change → Bool) (changes : List Change) (k : Key)
-    → ((c : Change) → p c ≡ true → has_key (keys_of c.log) k ≡ true) → 0 < length (filter p changes)
-    → has_key (flat_map (λ c. keys_of c.log) changes) k ≡ true
+pub among_all : (p : Report → Bool) (reports : List Report) (k : Key)
+    → ((c : Report) → p c ≡ true → has_key (keys_of c.log) k ≡ true) → 0 < length (filter p reports)
+    → has_key (flat_map (λ c. keys_of c.log) reports) k ≡ true
 among_all p [] k h some = absurd (omega arith)
-among_all p (c ∷ changes) k h some =
+among_all p (c ∷ reports) k h some =
     elim (cases_Bool (p c)) [
-      | inl here ↦ has_in_prefix (keys_of c.log) (flat_map (λ d. keys_of d.log) changes) k (h c here)
-      | inr away ↦ has_back (keys_of c.log) (flat_map (λ d. keys_of d.log) changes) k (among_all p changes k h (rw away at some))
+      | inl here ↦ has_in_prefix (keys_of c.log) (flat_map (λ d. keys_of d.log) reports) k (h c here)
+      | inr away ↦ has_back (keys_of c.log) (flat_map (λ d. keys_of d.log) reports) k (among_all p reports k h (rw away at some))
     ]
 
 -- a key of a prefix is a key of what begins with it
@@ -74,22 +74,22 @@ has_of_prefix keys prefix k begins h =
 -- ---- a prefix that enough logs have
 
 -- A list that enough logs begin with is settled.
-pub settled : (limit : ℕ) (changes : List Change) (P : List Key) → AllByRecursion IsFit changes → 0 < limit
-    → length changes < limit + limit → limit ≤ count_beginning P changes → IsSettled limit changes P
-settled limit changes P fit positive few enough =
-    let begins : Change → Bool = λ c. begins_with (keys_of c.log) P in
-    let one = some_pass IsFit begins changes fit (omega (arith, enough)) in
+pub settled : (limit : ℕ) (reports : List Report) (P : List Key) → AllByRecursion IsFit reports → 0 < limit
+    → length reports < limit + limit → limit ≤ count_beginning P reports → IsSettled limit reports P
+settled limit reports P fit positive few enough =
+    let begins : Report → Bool = λ c. begins_with (keys_of c.log) P in
+    let one = some_pass IsFit begins reports fit (omega (arith, enough)) in
     let rest = rest_of (keys_of one.0.log) P one.2 in
     record {
       rising = rising_prefix P rest.0 (subst AreRising rest.1 one.1.log.rising);
       own_ids = own_in_prefix P rest.0 (subst HaveOwnIds rest.1 one.1.log.own_ids);
       held = λ k h.
-          let more = more_pass begins (λ c. has_key (keys_of c.log) k) changes (λ c b. has_of_prefix (keys_of c.log) P k b h) in
-          le-leb limit (length (holders changes k)) (omega (arith, enough, more));
+          let more = more_pass begins (λ c. has_key (keys_of c.log) k) reports (λ c b. has_of_prefix (keys_of c.log) P k b h) in
+          le-leb limit (length (holders reports k)) (omega (arith, enough, more));
       closed = λ k h.
-          let held_by = leb-true limit (length (holders changes k)) h in
-          let common = both_pass begins (λ c. has_key (keys_of c.log) k) changes in
-          let both = some_pass IsFit (λ c. begins c && has_key (keys_of c.log) k) changes fit (omega (arith, enough, held_by, common)) in
+          let held_by = leb-true limit (length (holders reports k)) h in
+          let common = both_pass begins (λ c. has_key (keys_of c.log) k) reports in
+          let both = some_pass IsFit (λ c. begins c && has_key (keys_of c.log) k) reports fit (omega (arith, enough, held_by, common)) in
           let tail = rest_of (keys_of both.0.log) P (and_parts (begins both.0) (has_key (keys_of both.0.log) k) both.2).0 in
           elim (has_append P tail.0 k (subst (λ (xs : List Key). has_key xs k ≡ true) tail.1
           (and_parts (begins both.0) (has_key (keys_of both.0.log) k) both.2).1)) [
@@ -98,18 +98,18 @@ settled limit changes P fit positive few enough =
           ];
     }
 
-keys_entries : (changes : List Change) (keys : List Key) → keys_of (map (entry_in changes) keys) ≡ keys
-keys_entries changes [] = refl
-keys_entries changes (k ∷ keys) = ap (λ (xs : List Key). k ∷ xs) (keys_entries changes keys)
+keys_entries : (reports : List Report) (keys : List Key) → keys_of (map (entry_in reports) keys) ≡ keys
+keys_entries reports [] = refl
+keys_entries reports (k ∷ keys) = ap (λ (xs : List Key). k ∷ xs) (keys_entries reports keys)
 
 -- the keys of the merged log
-pub merged_keys : (limit : ℕ) (changes : List Change)
-    → keys_of (merged_from limit changes)
-    ≡ keys_of (merged_synced_part changes) ++ later_keys limit changes (keys_of (merged_synced_part changes)) (all_keys changes)
-merged_keys limit changes =
-    let base = merged_synced_part changes in
-    let added = later_keys limit changes (keys_of base) (all_keys changes) in
-    map-append (λ (e : Entry). e.key) base (map (entry_in changes) added) ∙ ap (λ (xs : List Key). keys_of base ++ xs) (keys_entries changes added)
+pub merged_keys : (limit : ℕ) (reports : List Report)
+    → keys_of (merged_from limit reports)
+    ≡ keys_of (merged_synced_part reports) ++ later_keys limit reports (keys_of (merged_synced_part reports)) (all_keys reports)
+merged_keys limit reports =
+    let base = merged_synced_part reports in
+    let added = later_keys limit reports (keys_of base) (all_keys reports) in
+    map-append (λ (e : Entry). e.key) base (map (entry_in reports) added) ∙ ap (λ (xs : List Key). keys_of base ++ xs) (keys_entries reports added)
 
 pub begins_longer : (xs ys prefix : List Key) → begins_with xs prefix ≡ true → begins_with (xs ++ ys) prefix ≡ true
 begins_longer xs ys prefix h =
@@ -121,23 +121,23 @@ begins_further : (prefix xs rest : List Key) → begins_with xs rest ≡ true �
 begins_further [] xs rest h = h
 begins_further (f ∷ prefix) xs rest h = and_from (key_eq f f) (begins_with (prefix ++ xs) (prefix ++ rest)) (key_eq_self f) (begins_further prefix xs rest h)
 
-pub begins_with_prefix : (limit : ℕ) (changes : List Change) (P : List Key) → AllByRecursion IsFit changes → 0 < limit
-    → length changes < limit + limit → limit ≤ count_beginning P changes
-    → (begins_with (keys_of (merged_synced_part changes)) P ≡ true) ⊎ (begins_with P (keys_of (merged_synced_part changes)) ≡ true)
-    → begins_with (keys_of (merged_from limit changes)) P ≡ true
-begins_with_prefix limit changes P fit positive few enough either =
-    let base = keys_of (merged_synced_part changes) in
-    let added = later_keys limit changes base (all_keys changes) in
-    let s = settled limit changes P fit positive few enough in
+pub begins_with_prefix : (limit : ℕ) (reports : List Report) (P : List Key) → AllByRecursion IsFit reports → 0 < limit
+    → length reports < limit + limit → limit ≤ count_beginning P reports
+    → (begins_with (keys_of (merged_synced_part reports)) P ≡ true) ⊎ (begins_with P (keys_of (merged_synced_part reports)) ≡ true)
+    → begins_with (keys_of (merged_from limit reports)) P ≡ true
+begins_with_prefix limit reports P fit positive few enough either =
+    let base = keys_of (merged_synced_part reports) in
+    let added = later_keys limit reports base (all_keys reports) in
+    let s = settled limit reports P fit positive few enough in
     let whole : begins_with (base ++ added) P ≡ true = elim either [
       | inl shorter ↦ begins_longer base added P shorter
       | inr longer ↦
           let rest = rest_of P base longer in
-          let among : AreAmong rest.0 (all_keys changes) = λ k h. has_in_order (flat_map (λ c. keys_of c.log) changes) k
-          (among_all (λ c. begins_with (keys_of c.log) P) changes k
+          let among : AreAmong rest.0 (all_keys reports) = λ k h. has_in_order (flat_map (λ c. keys_of c.log) reports) k
+          (among_all (λ c. begins_with (keys_of c.log) P) reports k
           (λ c b. has_of_prefix (keys_of c.log) P k b
           (subst (λ (xs : List Key). has_key xs k ≡ true) (sym rest.1) (has_back base rest.0 k h))) (omega (arith, enough))) in
-          let walked = walk limit changes P base rest.0 (all_keys changes) s rest.1 (in_order_rising (flat_map (λ c. keys_of c.log) changes)) among in
+          let walked = walk limit reports P base rest.0 (all_keys reports) s rest.1 (in_order_rising (flat_map (λ c. keys_of c.log) reports)) among in
           subst (λ (xs : List Key). begins_with (base ++ added) xs ≡ true) (sym rest.1) (begins_further base added rest.0 walked)
     ] in
-    subst (λ (xs : List Key). begins_with xs P ≡ true) (sym (merged_keys limit changes)) whole
+    subst (λ (xs : List Key). begins_with xs P ≡ true) (sym (merged_keys limit reports)) whole

@@ -14,8 +14,8 @@ use Rattle.nz_base.proofs.Booleans.{true_and_false}
 use Rattle.nz_base.proofs.Logs.{has_first, has_append, has_in_prefix, has_back, above_each, above_last}
 use Rattle.nz_base.proofs.Keys.{never_self}
 use Rattle.nz_merge.specs.Merged.{IsFit, greatest, lowest, synced_entries, merged_synced_part, holders, all_keys}
-use Rattle.nz_merge.specs.Merged.{is_taken, later_keys, command_of_key, command_of_change, entry_in, merged_from}
-use Rattle.nz_merge.specs.declared.change.Change.{Change}
+use Rattle.nz_merge.specs.Merged.{is_taken, later_keys, command_of_key, command_of_report, entry_in, merged_from}
+use Rattle.nz_merge.specs.declared.report.Report.{Report}
 use Rattle.nz_merge.proofs.Ordering.{in_order_rising, has_in_order}
 use Rattle.nz_merge.proofs.CommonPrefixes.{among_all, merged_keys}
 use Rattle.nz_merge.proofs.Logs.{base_log, lowest_has, all_filter}
@@ -32,14 +32,14 @@ with_id (k ∷ keys) i h =
     ]
 
 -- it is taken, where no other key with its id is
-pub takes_held : (limit : ℕ) (changes : List Change) (taken candidates : List Key) (k : Key) → AreRising candidates → has_key candidates k ≡ true
-    → leb limit (length (holders changes k)) ≡ true
+pub takes_held : (limit : ℕ) (reports : List Report) (taken candidates : List Key) (k : Key) → AreRising candidates → has_key candidates k ≡ true
+    → leb limit (length (holders reports k)) ≡ true
     → ((x : Key) → has_key taken x ≡ true → key_below x k ≡ true)
-    → ((x : Key) → has_key (taken ++ later_keys limit changes taken candidates) x ≡ true → id_eq (id_of k) (id_of x) ≡ true → x ≡ k)
-    → has_key (later_keys limit changes taken candidates) k ≡ true
+    → ((x : Key) → has_key (taken ++ later_keys limit reports taken candidates) x ≡ true → id_eq (id_of k) (id_of x) ≡ true → x ≡ k)
+    → has_key (later_keys limit reports taken candidates) k ≡ true
 unfolding later_keys
-takes_held limit changes taken [] k r there enough below only = absurd cc
-takes_held limit changes taken (c ∷ candidates) k r there enough below only =
+takes_held limit reports taken [] k r there enough below only = absurd cc
+takes_held limit reports taken (c ∷ candidates) k r there enough below only =
     elim (cases_Bool (key_eq k c)) [
       | inl equal ↦
           let same : k ≡ c = same_key k c equal in
@@ -48,23 +48,23 @@ takes_held limit changes taken (c ∷ candidates) k r there enough below only =
             | inr away ↦ away
             | inl known ↦
                 let found = with_id taken (id_of k) known in
-                let itself : found.0 ≡ k = only found.0 (has_in_prefix taken (later_keys limit changes taken (c ∷ candidates)) found.0 found.1) found.2 in
+                let itself : found.0 ≡ k = only found.0 (has_in_prefix taken (later_keys limit reports taken (c ∷ candidates)) found.0 found.1) found.2 in
                 never_self k (subst (λ (x : Key). key_below x k ≡ true) itself (below found.0 found.1))
           ] in
-          let joins : is_taken limit changes taken k ≡ true =
-          and_from (leb limit (length (holders changes k)))
+          let joins : is_taken limit reports taken k ≡ true =
+          and_from (leb limit (length (holders reports k)))
           (is_above_last taken k && not (has_id taken (id_of k))) enough
           (and_from (is_above_last taken k) (not (has_id taken (id_of k))) above (rw fresh refl)) in
-          let joins_c : is_taken limit changes taken c ≡ true = subst (λ (x : Key). is_taken limit changes taken x ≡ true) same joins in
-          rw joins_c (or_left (key_eq k c) (has_key (later_keys limit changes (taken ++ c ∷ []) candidates) k) equal)
+          let joins_c : is_taken limit reports taken c ≡ true = subst (λ (x : Key). is_taken limit reports taken x ≡ true) same joins in
+          rw joins_c (or_left (key_eq k c) (has_key (later_keys limit reports (taken ++ c ∷ []) candidates) k) equal)
       | inr other ↦
           let after : has_key candidates k ≡ true = elim (or_cases (key_eq k c) (has_key candidates k) there) [
             | inl equal ↦ true_and_false (key_eq k c) equal other
             | inr rest ↦ rest
           ] in
           let before : key_below c k ≡ true = r.0 k after in
-          elim (cases_Bool (is_taken limit changes taken c)) [
-            | inr skipped ↦ rw skipped (takes_held limit changes taken candidates k r.1 after enough below (rw skipped at only))
+          elim (cases_Bool (is_taken limit reports taken c)) [
+            | inr skipped ↦ rw skipped (takes_held limit reports taken candidates k r.1 after enough below (rw skipped at only))
             | inl joins ↦
                 let more : (x : Key) → has_key (taken ++ c ∷ []) x ≡ true → key_below x k ≡ true = λ x h. elim (has_append taken (c ∷ []) x h) [
                   | inl early ↦ below x early
@@ -73,38 +73,38 @@ takes_held limit changes taken (c ∷ candidates) k r there enough below only =
                     | inr none ↦ absurd cc
                   ]
                 ] in
-                let rest = later_keys limit changes (taken ++ c ∷ []) candidates in
+                let rest = later_keys limit reports (taken ++ c ∷ []) candidates in
                 let only_then : (x : Key) → has_key (taken ++ c ∷ rest) x ≡ true → id_eq (id_of k) (id_of x) ≡ true → x ≡ k = rw joins at only in
                 let found =
-                takes_held limit changes (taken ++ c ∷ []) candidates k r.1 after enough more
+                takes_held limit reports (taken ++ c ∷ []) candidates k r.1 after enough more
                 (λ x h i. only_then x (subst (λ (xs : List Key). has_key xs x ≡ true) (append_assoc taken (c ∷ []) rest) h) i) in
                 rw joins (or_right (key_eq k c) (has_key rest k) found)
           ]
     ]
 
-pub merged_has : (limit : ℕ) (changes : List Change) (k : Key) → AllByRecursion IsFit changes → 0 < limit
-    → limit ≤ length (holders changes k) → is_above_last (keys_of (merged_synced_part changes)) k ≡ true
-    → ((x : Key) → has_key (keys_of (merged_from limit changes)) x ≡ true → id_eq (id_of k) (id_of x) ≡ true → x ≡ k)
-    → has_key (keys_of (merged_from limit changes)) k ≡ true
-merged_has limit changes k fit positive enough above only =
-    let base = keys_of (merged_synced_part changes) in
-    let candidates = all_keys changes in
-    let same = merged_keys limit changes in
-    let rising = base_log changes fit in
+pub merged_has : (limit : ℕ) (reports : List Report) (k : Key) → AllByRecursion IsFit reports → 0 < limit
+    → limit ≤ length (holders reports k) → is_above_last (keys_of (merged_synced_part reports)) k ≡ true
+    → ((x : Key) → has_key (keys_of (merged_from limit reports)) x ≡ true → id_eq (id_of k) (id_of x) ≡ true → x ≡ k)
+    → has_key (keys_of (merged_from limit reports)) k ≡ true
+merged_has limit reports k fit positive enough above only =
+    let base = keys_of (merged_synced_part reports) in
+    let candidates = all_keys reports in
+    let same = merged_keys limit reports in
+    let rising = base_log reports fit in
     let there : has_key candidates k ≡ true =
-    has_in_order (flat_map (λ c. keys_of c.log) changes) k
-    (among_all (λ c. has_key (keys_of c.log) k) changes k (λ c h. h) (omega (arith, enough))) in
+    has_in_order (flat_map (λ c. keys_of c.log) reports) k
+    (among_all (λ c. has_key (keys_of c.log) k) reports k (λ c h. h) (omega (arith, enough))) in
     let found =
-    takes_held limit changes base candidates k (in_order_rising (flat_map (λ c. keys_of c.log) changes)) there
-    (le-leb limit (length (holders changes k)) enough) (λ x h. above_each base k x rising.0 above h)
+    takes_held limit reports base candidates k (in_order_rising (flat_map (λ c. keys_of c.log) reports)) there
+    (le-leb limit (length (holders reports k)) enough) (λ x h. above_each base k x rising.0 above h)
     (λ x h i. only x (subst (λ (xs : List Key). has_key xs x ≡ true) (sym same) h) i) in
-    subst (λ (xs : List Key). has_key xs k ≡ true) (sym same) (has_back base (later_keys limit changes base candidates) k found)
+    subst (λ (xs : List Key). has_key xs k ≡ true) (sym same) (has_back base (later_keys limit reports base candidates) k found)
 
 -- ---- where the entries come from
 
 -- what each entry of each log has, each entry of the merged log has
-abbrev pub EachEntry : (Entry → Type 0) → List Change → Type 0
-EachEntry Q changes = AllByRecursion (λ c. AllByRecursion Q c.log) changes
+abbrev pub EachEntry : (Entry → Type 0) → List Report → Type 0
+EachEntry Q reports = AllByRecursion (λ c. AllByRecursion Q c.log) reports
 
 all_append : (Q : Entry → Type 0) (xs ys : List Entry) → AllByRecursion Q xs → AllByRecursion Q ys → AllByRecursion Q (xs ++ ys)
 all_append Q [] ys hx hy = hy
@@ -115,7 +115,7 @@ all_take Q zero xs h = tt
 all_take Q (suc n) [] h = tt
 all_take Q (suc n) (x ∷ xs) h = (h.0, all_take Q n xs h.1)
 
-base_entries : (Q : Entry → Type 0) (o : Option Change) → ((c : Change) → o ≡ Some c → AllByRecursion Q c.log) → AllByRecursion Q (synced_entries o)
+base_entries : (Q : Entry → Type 0) (o : Option Report) → ((c : Report) → o ≡ Some c → AllByRecursion Q c.log) → AllByRecursion Q (synced_entries o)
 base_entries Q None h = tt
 base_entries Q (Some c) h = all_take Q c.synced c.log (h c refl)
 
@@ -129,47 +129,47 @@ entry_at Q key (e ∷ log) each h =
       | inr other ↦ rw other (entry_at Q key log each.1 (rw other at h))
     ]
 
--- a holder is one of the changes, and holds the key
-pub record IsHolder (Q : Entry → Type 0) (key : Key) (c : Change) : Type 0 where
+-- a holder is one of the reports, and holds the key
+pub record IsHolder (Q : Entry → Type 0) (key : Key) (c : Report) : Type 0 where
   pub each : AllByRecursion Q c.log
   pub holds : has_key (keys_of c.log) key ≡ true
 
-are_holders : (Q : Entry → Type 0) (key : Key) (changes : List Change) → EachEntry Q changes → AllByRecursion (IsHolder Q key) (holders changes key)
+are_holders : (Q : Entry → Type 0) (key : Key) (reports : List Report) → EachEntry Q reports → AllByRecursion (IsHolder Q key) (holders reports key)
 are_holders Q key [] each = tt
-are_holders Q key (c ∷ changes) each =
+are_holders Q key (c ∷ reports) each =
     elim (cases_Bool (has_key (keys_of c.log) key)) [
-      | inl here ↦ rw here (record { each = each.0; holds = here }, are_holders Q key changes each.1)
-      | inr away ↦ rw away (are_holders Q key changes each.1)
+      | inl here ↦ rw here (record { each = each.0; holds = here }, are_holders Q key reports each.1)
+      | inr away ↦ rw away (are_holders Q key reports each.1)
     ]
 
-by_holder : (Q : Entry → Type 0) (key : Key) (found : List Change) → AllByRecursion (IsHolder Q key) found
-    → 0 < length found → Q (record { key = key; command = command_of_change key (lowest found) })
+by_holder : (Q : Entry → Type 0) (key : Key) (found : List Report) → AllByRecursion (IsHolder Q key) found
+    → 0 < length found → Q (record { key = key; command = command_of_report key (lowest found) })
 by_holder Q key [] each some = absurd (omega arith)
 by_holder Q key (c ∷ found) each some =
     let first = lowest_has (IsHolder Q key) (c ∷ found) _ each refl in
     entry_at Q key _ first.each first.holds
 
-later_entries : (Q : Entry → Type 0) (limit : ℕ) (changes : List Change) (taken candidates : List Key)
-    → EachEntry Q changes → 0 < limit → AllByRecursion Q (map (entry_in changes) (later_keys limit changes taken candidates))
+later_entries : (Q : Entry → Type 0) (limit : ℕ) (reports : List Report) (taken candidates : List Key)
+    → EachEntry Q reports → 0 < limit → AllByRecursion Q (map (entry_in reports) (later_keys limit reports taken candidates))
 unfolding later_keys
-later_entries Q limit changes taken [] each positive = tt
-later_entries Q limit changes taken (k ∷ candidates) each positive =
-    elim (cases_Bool (is_taken limit changes taken k)) [
-      | inr skipped ↦ rw skipped (later_entries Q limit changes taken candidates each positive)
+later_entries Q limit reports taken [] each positive = tt
+later_entries Q limit reports taken (k ∷ candidates) each positive =
+    elim (cases_Bool (is_taken limit reports taken k)) [
+      | inr skipped ↦ rw skipped (later_entries Q limit reports taken candidates each positive)
       | inl joins ↦
           let enough =
-          leb-true limit (length (holders changes k))
-          (and_parts (leb limit (length (holders changes k))) (is_above_last taken k && not (has_id taken (id_of k))) joins).0 in
+          leb-true limit (length (holders reports k))
+          (and_parts (leb limit (length (holders reports k))) (is_above_last taken k && not (has_id taken (id_of k))) joins).0 in
           rw joins (
-            by_holder Q k (holders changes k) (are_holders Q k changes each) (omega (arith, enough)),
-            later_entries Q limit changes (taken ++ k ∷ []) candidates each positive,
+            by_holder Q k (holders reports k) (are_holders Q k reports each) (omega (arith, enough)),
+            later_entries Q limit reports (taken ++ k ∷ []) candidates each positive,
           )
     ]
 
-pub merged_entries : (Q : Entry → Type 0) (limit : ℕ) (changes : List Change) → EachEntry Q changes → 0 < limit → AllByRecursion Q (merged_from limit changes)
-merged_entries Q limit changes each positive =
-    let best : Change → Bool = λ c. eqb c.synced (greatest (map (λ d. d.synced) changes)) in
-    all_append Q (merged_synced_part changes) (map (entry_in changes) (later_keys limit changes (keys_of (merged_synced_part changes)) (all_keys changes)))
-    (base_entries Q (lowest (filter best changes))
-    (λ c h. lowest_has (λ d. AllByRecursion Q d.log) (filter best changes) c (all_filter (λ d. AllByRecursion Q d.log) best changes each) h))
-    (later_entries Q limit changes (keys_of (merged_synced_part changes)) (all_keys changes) each positive)
+pub merged_entries : (Q : Entry → Type 0) (limit : ℕ) (reports : List Report) → EachEntry Q reports → 0 < limit → AllByRecursion Q (merged_from limit reports)
+merged_entries Q limit reports each positive =
+    let best : Report → Bool = λ c. eqb c.synced (greatest (map (λ d. d.synced) reports)) in
+    all_append Q (merged_synced_part reports) (map (entry_in reports) (later_keys limit reports (keys_of (merged_synced_part reports)) (all_keys reports)))
+    (base_entries Q (lowest (filter best reports))
+    (λ c h. lowest_has (λ d. AllByRecursion Q d.log) (filter best reports) c (all_filter (λ d. AllByRecursion Q d.log) best reports each) h))
+    (later_entries Q limit reports (keys_of (merged_synced_part reports)) (all_keys reports) each positive)

@@ -9,7 +9,7 @@ use Rattle.nz_base.proofs.Booleans.{true_and_false}
 use Rattle.nz_base.proofs.Logs.{has_first, has_later}
 use Rattle.nz_merge.specs.Merged.{AreFit}
 use Rattle.nz_merge.specs.Fit.{comes_first, are_log, is_fit, are_fit}
-use Rattle.nz_merge.specs.declared.change.Change.{Change}
+use Rattle.nz_merge.specs.declared.report.Report.{Report}
 
 first_below : (key : Key) (keys : List Key) → comes_first key keys ≡ true → (x : Key) → has_key keys x ≡ true → key_below key x ≡ true
 first_below key [] h x there = absurd cc
@@ -52,22 +52,22 @@ log_is : (keys : List Key) → AreRising keys → HaveOwnIds keys → are_log ke
 log_is [] r own = refl
 log_is (k ∷ keys) r own = and_from (comes_first k keys) (are_log keys) (first_is k keys r.0 own.0) (log_is keys r.1 own.1)
 
-pub fit_yes : (changes : List Change) → are_fit changes ≡ true → AreFit changes
+pub fit_yes : (reports : List Report) → are_fit reports ≡ true → AreFit reports
 fit_yes [] h = tt
-fit_yes (c ∷ changes) h =
-    let own = (and_parts (is_fit c) (are_fit changes) h).0 in
+fit_yes (c ∷ reports) h =
+    let own = (and_parts (is_fit c) (are_fit reports) h).0 in
     let logs = (and_parts (leb c.synced (length c.log)) (are_log (keys_of c.log)) own).1 in (
       record {
         log = record { rising = log_rising (keys_of c.log) logs; own_ids = log_own (keys_of c.log) logs };
         synced = leb-true c.synced (length c.log) (and_parts (leb c.synced (length c.log)) (are_log (keys_of c.log)) own).0;
       },
-      fit_yes changes (and_parts (is_fit c) (are_fit changes) h).1,
+      fit_yes reports (and_parts (is_fit c) (are_fit reports) h).1,
     )
 
-pub fit_is : (changes : List Change) → AreFit changes → are_fit changes ≡ true
+pub fit_is : (reports : List Report) → AreFit reports → are_fit reports ≡ true
 fit_is [] h = refl
-fit_is (c ∷ changes) h =
+fit_is (c ∷ reports) h =
     let fit = h.0 in
-    and_from (is_fit c) (are_fit changes)
+    and_from (is_fit c) (are_fit reports)
     (and_from (leb c.synced (length c.log)) (are_log (keys_of c.log)) (le-leb c.synced (length c.log) fit.synced)
-    (log_is (keys_of c.log) fit.log.rising fit.log.own_ids)) (fit_is changes h.1)
+    (log_is (keys_of c.log) fit.log.rising fit.log.own_ids)) (fit_is reports h.1)

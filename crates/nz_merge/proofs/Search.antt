@@ -109,11 +109,11 @@ has_slice (e ∷ log) zero key h = let same : e.key ≡ key = cc in subst (λ (k
 has_slice (e ∷ log) (suc p) key h = or_right (key_eq key e.key) (has_key (keys_of log) key) (has_slice log p key h)
 
 -- a search shows whether the key is there
-pub search_tells : (log : List Entry) (key : Key) (r : Result ℕ ℕ) → IsSearchInRange r (length log)
+pub search_shows : (log : List Entry) (key : Key) (r : Result ℕ ℕ) → IsSearchInRange r (length log)
     → IsBinarySearchResult (λ e. key_cmp e.key key) log r → AreRising (keys_of log)
     → is_some (result_ok r) ≡ has_key (keys_of log) key
-search_tells log key (Ok i) range h rising = let found = search_found log key (Ok i) range h in sym (has_slice log i key found.1)
-search_tells log key (Err i) range h rising = let none = search_none log key (Err i) h rising in sym none
+search_shows log key (Ok i) range h rising = let found = search_found log key (Ok i) range h in sym (has_slice log i key found.1)
+search_shows log key (Err i) range h rising = let none = search_none log key (Err i) h rising in sym none
 
 -- ---- commands
 

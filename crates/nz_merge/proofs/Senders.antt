@@ -8,7 +8,7 @@ use Rattle.nz_math.specs.Count.{count_below, both, everyone, is_in, IsChoice}
 use Rattle.nz_math.specs.Quorum.{group_size, slow_quorum, fast_quorum, half_up}
 use Rattle.nz_math.proofs.Counting.{counting, count_same, count_everyone, count_add, count_none, count_choice}
 use Rattle.nz_math.proofs.Sharing.{lists_share}
-use Rattle.nz_merge.specs.declared.change.Change.{Change}
+use Rattle.nz_merge.specs.declared.report.Report.{Report}
 use Rattle.nz_merge.specs.Sender.{senders}
 
 -- ---- items of a list
@@ -41,15 +41,15 @@ pass_twice p a b (x ∷ xs) h =
 -- ---- senders
 
 -- the report of a sender
-pub sender_of : (changes : List Change) (y : ℕ) → is_in (senders changes) y ≡ true → (c : Change) × Contains changes c × (c.sender ≡ y)
+pub sender_of : (reports : List Report) (y : ℕ) → is_in (senders reports) y ≡ true → (c : Report) × Contains reports c × (c.sender ≡ y)
 sender_of [] y h = absurd cc
-sender_of (c ∷ changes) y h =
+sender_of (c ∷ reports) y h =
     elim (cases_eq c.sender y) [
-      | inl same ↦ (c, contains_first c changes, same)
+      | inl same ↦ (c, contains_first c reports, same)
       | inr other ↦
           let apart : eqb c.sender y ≡ false = ne_eqb c.sender y other in
-          let rest = sender_of changes y (rw apart at h) in
-          (rest.0, contains_later c changes rest.0 rest.1, rest.2)
+          let rest = sender_of reports y (rw apart at h) in
+          (rest.0, contains_later c reports rest.0 rest.1, rest.2)
     ]
 
 pass_first : (test : ℕ → Bool) (n x : ℕ) (i : Bool) → test n ≡ true → ((eqb n x || i) && test x) ≡ (eqb n x || (i && test x))
@@ -71,46 +71,46 @@ fail_first test n x i e =
     none false = refl
 
 -- the reports of different senders that pass a test are as many as the senders that do
-pub count_senders : (n : ℕ) (test : ℕ → Bool) (changes : List Change) → IsChoice n (senders changes)
-    → count_below n (both (is_in (senders changes)) test) ≡ length (filter (λ c. test c.sender) changes)
+pub count_senders : (n : ℕ) (test : ℕ → Bool) (reports : List Report) → IsChoice n (senders reports)
+    → count_below n (both (is_in (senders reports)) test) ≡ length (filter (λ c. test c.sender) reports)
 count_senders n test [] h = count_none n (both (is_in []) test) (λ x lt. refl)
-count_senders n test (c ∷ changes) h =
-    let later = both (is_in (senders changes)) test in
-    let below : (x : ℕ) → is_in (senders changes) x ≡ true → x < n = λ x there. h.below x (or_right (eqb c.sender x) (is_in (senders changes) x) there) in
-    let rest = count_senders n test changes (record { distinct = h.distinct.1; below = below }) in
+count_senders n test (c ∷ reports) h =
+    let later = both (is_in (senders reports)) test in
+    let below : (x : ℕ) → is_in (senders reports) x ≡ true → x < n = λ x there. h.below x (or_right (eqb c.sender x) (is_in (senders reports) x) there) in
+    let rest = count_senders n test reports (record { distinct = h.distinct.1; below = below }) in
     let own : eqb c.sender c.sender ≡ true = eq-eqb c.sender c.sender refl in
     let low : c.sender < n = h.below c.sender (rw own refl) in
     elim (cases_Bool (test c.sender)) [
       | inl here ↦
-          let same = count_same n (both (is_in (senders (c ∷ changes))) test) (λ x. eqb c.sender x || later x)
-          (λ x lt. pass_first test c.sender x (is_in (senders changes) x) here) in
+          let same = count_same n (both (is_in (senders (c ∷ reports))) test) (λ x. eqb c.sender x || later x)
+          (λ x lt. pass_first test c.sender x (is_in (senders reports) x) here) in
           let fresh : later c.sender ≡ false = rw h.distinct.0 refl in
           let more = count_add n c.sender later low fresh in
           rw here (omega (arith, same, more, rest))
       | inr away ↦
-          let same = count_same n (both (is_in (senders (c ∷ changes))) test) later (λ x lt. fail_first test c.sender x (is_in (senders changes) x) away) in
+          let same = count_same n (both (is_in (senders (c ∷ reports))) test) later (λ x lt. fail_first test c.sender x (is_in (senders reports) x) away) in
           rw away (same ∙ rest)
     ]
 
 -- ---- quorums and the senders of f + 1 reports
 
 -- a fast quorum and the senders share one more than half of f, rounded up
-pub fast_members : (f : ℕ) (quorum : List ℕ) (changes : List Change) → IsChoice (group_size f) quorum → fast_quorum f ≤ length quorum
-    → IsChoice (group_size f) (senders changes) → length changes ≡ slow_quorum f → half_up f + 1 ≤ length (filter (λ c. is_in quorum c.sender) changes)
-fast_members f quorum changes choice enough members size =
+pub fast_members : (f : ℕ) (quorum : List ℕ) (reports : List Report) → IsChoice (group_size f) quorum → fast_quorum f ≤ length quorum
+    → IsChoice (group_size f) (senders reports) → length reports ≡ slow_quorum f → half_up f + 1 ≤ length (filter (λ c. is_in quorum c.sender) reports)
+fast_members f quorum reports choice enough members size =
     let n = group_size f in
-    let sum = counting n (is_in (senders changes)) (is_in quorum) everyone (λ x lt h. refl) (λ x lt h. refl) in
-    let among = count_senders n (is_in quorum) changes members in
-    let first = count_choice n (senders changes) members in
+    let sum = counting n (is_in (senders reports)) (is_in quorum) everyone (λ x lt h. refl) (λ x lt h. refl) in
+    let among = count_senders n (is_in quorum) reports members in
+    let first = count_choice n (senders reports) members in
     let second = count_choice n quorum choice in
-    let long = length-map changes (λ (c : Change). c.sender) in
+    let long = length-map reports (λ (c : Report). c.sender) in
     omega (arith, sum, count_everyone n, among, first, second, long, enough, size)
 
 -- a slow quorum and the senders share one
-pub slow_member : (f : ℕ) (quorum : List ℕ) (changes : List Change) → IsChoice (group_size f) quorum → slow_quorum f ≤ length quorum
-    → IsChoice (group_size f) (senders changes) → length changes ≡ slow_quorum f → (c : Change) × Contains changes c × (is_in quorum c.sender ≡ true)
-slow_member f quorum changes choice enough members size =
-    let long = length-map changes (λ (c : Change). c.sender) in
-    let y = lists_share (group_size f) quorum (senders changes) [] choice members (omega (arith, enough, size, long)) in
-    let c = sender_of changes y.0 y.1.in_second in
+pub slow_member : (f : ℕ) (quorum : List ℕ) (reports : List Report) → IsChoice (group_size f) quorum → slow_quorum f ≤ length quorum
+    → IsChoice (group_size f) (senders reports) → length reports ≡ slow_quorum f → (c : Report) × Contains reports c × (is_in quorum c.sender ≡ true)
+slow_member f quorum reports choice enough members size =
+    let long = length-map reports (λ (c : Report). c.sender) in
+    let y = lists_share (group_size f) quorum (senders reports) [] choice members (omega (arith, enough, size, long)) in
+    let c = sender_of reports y.0 y.1.in_second in
     (c.0, c.1, ap (is_in quorum) c.2 ∙ y.1.in_first)

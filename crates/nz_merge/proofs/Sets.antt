@@ -12,7 +12,7 @@ use Rattle.nz_base.specs.Key.{key_cmp, key_eq}
 use Rattle.nz_base.specs.Log.{keys_of}
 use Rattle.nz_base.proofs.Names.{key_eq_self, same_key}
 use Rattle.nz_merge.specs.Merged.{put_in_order, put_all_in_order, of_view}
-use Rattle.nz_merge.specs.declared.change.Change.{Change}
+use Rattle.nz_merge.specs.declared.report.Report.{Report}
 use Rattle.nz_merge.proofs.Ordering.{put_all-append}
 use Rattle.nz_merge.proofs.Loops.{next_item}
 use Rattle.nz_merge.proofs.Search.{cmp_equal, cmp_self}
@@ -61,29 +61,29 @@ leave_step p before total log i e lt is fails h =
     ap (λ (xs : List Entry). put_all_in_order before (filter p (keys_of xs))) (sym (next_item log i e lt is)) ∙ h in
     rw fails at whole
 
--- those keys of the changes' logs that pass a test
-abbrev pub keys_passing : (Key → Bool) → List Change → List Key
-keys_passing p changes = filter p (flat_map (λ c. keys_of c.log) changes)
+-- those keys of the reports' logs that pass a test
+abbrev pub keys_passing : (Key → Bool) → List Report → List Key
+keys_passing p reports = filter p (flat_map (λ c. keys_of c.log) reports)
 
 -- the keys of one log more are put
-pub log_step : (p : Key → Bool) (view : ℕ) (before after total : List Key) (changes : List Change) (i : ℕ) (c : Change)
-    → i < length changes → c ≡ get_or changes i c → eqb c.last view ≡ true
-    → after ≡ put_all_in_order before (filter p (keys_of c.log)) → put_all_in_order before (keys_passing p (of_view view (drop i changes))) ≡ total
-    → put_all_in_order after (keys_passing p (of_view view (drop (i + 1) changes))) ≡ total
-log_step p view before after total changes i c lt is of put h =
-    let rest = flat_map (λ d. keys_of d.log) (of_view view (drop (i + 1) changes)) in
-    let whole : put_all_in_order before (keys_passing p (of_view view (c ∷ drop (i + 1) changes))) ≡ total =
-    ap (λ (xs : List Change). put_all_in_order before (keys_passing p (of_view view xs))) (sym (next_item changes i c lt is)) ∙ h in
+pub log_step : (p : Key → Bool) (view : ℕ) (before after total : List Key) (reports : List Report) (i : ℕ) (c : Report)
+    → i < length reports → c ≡ get_or reports i c → eqb c.last view ≡ true
+    → after ≡ put_all_in_order before (filter p (keys_of c.log)) → put_all_in_order before (keys_passing p (of_view view (drop i reports))) ≡ total
+    → put_all_in_order after (keys_passing p (of_view view (drop (i + 1) reports))) ≡ total
+log_step p view before after total reports i c lt is of put h =
+    let rest = flat_map (λ d. keys_of d.log) (of_view view (drop (i + 1) reports)) in
+    let whole : put_all_in_order before (keys_passing p (of_view view (c ∷ drop (i + 1) reports))) ≡ total =
+    ap (λ (xs : List Report). put_all_in_order before (keys_passing p (of_view view xs))) (sym (next_item reports i c lt is)) ∙ h in
     let mine : put_all_in_order before (filter p (keys_of c.log ++ rest)) ≡ total = rw of at whole in
     ap (λ (xs : List Key). put_all_in_order xs (filter p rest)) put
     ∙ sym (put_all-append before (filter p (keys_of c.log)) (filter p rest))
     ∙ ap (λ (xs : List Key). put_all_in_order before xs) (sym (filter-append p (keys_of c.log) rest)) ∙ mine
 
-pub skip_step : (p : Key → Bool) (view : ℕ) (before total : List Key) (changes : List Change) (i : ℕ) (c : Change) → i < length changes
-    → c ≡ get_or changes i c → eqb c.last view ≡ false
-    → put_all_in_order before (keys_passing p (of_view view (drop i changes))) ≡ total
-    → put_all_in_order before (keys_passing p (of_view view (drop (i + 1) changes))) ≡ total
-skip_step p view before total changes i c lt is other h =
-    let whole : put_all_in_order before (keys_passing p (of_view view (c ∷ drop (i + 1) changes))) ≡ total =
-    ap (λ (xs : List Change). put_all_in_order before (keys_passing p (of_view view xs))) (sym (next_item changes i c lt is)) ∙ h in
+pub skip_step : (p : Key → Bool) (view : ℕ) (before total : List Key) (reports : List Report) (i : ℕ) (c : Report) → i < length reports
+    → c ≡ get_or reports i c → eqb c.last view ≡ false
+    → put_all_in_order before (keys_passing p (of_view view (drop i reports))) ≡ total
+    → put_all_in_order before (keys_passing p (of_view view (drop (i + 1) reports))) ≡ total
+skip_step p view before total reports i c lt is other h =
+    let whole : put_all_in_order before (keys_passing p (of_view view (c ∷ drop (i + 1) reports))) ≡ total =
+    ap (λ (xs : List Report). put_all_in_order before (keys_passing p (of_view view xs))) (sym (next_item reports i c lt is)) ∙ h in
     rw other at whole

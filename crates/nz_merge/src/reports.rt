@@ -9,109 +9,109 @@ ghost use Rattle.nz_merge.specs.Merged as merged;
 ghost use Rattle.nz_merge.specs.Merged.{AreFit, command_of_key, put_all_in_order, IsFit, greatest, of_view, lower_of, lowest};
 ghost use Rattle.nz_merge.specs.Merged.{with_synced, merged_synced_part, holders, entry_in};
 
-use super::change::Change;
+use super::report::Report;
 use nz_base::{Blob, Entry, EntryList, Id, Key, List, NoMemory, TryCopy};
 use std::alloc::Global;
 use std::collections::BTreeSet;
 
 /// The greatest last view.
-pub fn greatest_last(changes: &[Change]) -> u64
-    ensures { result ≡ greatest (map (λ c. c.last) changes.now) }
+pub fn greatest_last(reports: &[Report]) -> u64
+    ensures { result ≡ greatest (map (λ c. c.last) reports.now) }
 {
     let mut most = 0;
-    for change in changes {
-        most = most.max(change.last);
+    for report in reports {
+        most = most.max(report.last);
     }
     most
 }
 
-fn greatest_synced(changes: &[Change], view: u64) -> u32
-    ensures { result ≡ greatest (map (λ c. c.synced) (of_view view changes.now)) }
+fn greatest_synced(reports: &[Report], view: u64) -> u32
+    ensures { result ≡ greatest (map (λ c. c.synced) (of_view view reports.now)) }
 {
     let mut most = 0;
-    for change in changes {
-        if change.last == view {
-            most = most.max(change.synced);
+    for report in reports {
+        if report.last == view {
+            most = most.max(report.synced);
         }
     }
     most
 }
 
 // The one of the lower sender.
-fn lower<'a>(best: Option<&'a Change>, change: &'a Change) -> &'a Change
-    ensures { result.now ≡ lower_of (option_copied best.entry) change.now }
+fn lower<'a>(best: Option<&'a Report>, report: &'a Report) -> &'a Report
+    ensures { result.now ≡ lower_of (option_copied best.entry) report.now }
 {
     match best {
-        Some(best) if best.sender <= change.sender => best,
-        _ => change,
+        Some(best) if best.sender <= report.sender => best,
+        _ => report,
     }
 }
 
-fn most_synced(changes: &[Change], view: u64) -> Option<&Change>
-    requires { AreFit changes.now }
+fn most_synced(reports: &[Report], view: u64) -> Option<&Report>
+    requires { AreFit reports.now }
     ensures value { option_copied result ≡ lowest
-        (with_synced (greatest (map (λ c. c.synced) (of_view view changes.now))) (of_view view changes.now)) }
+        (with_synced (greatest (map (λ c. c.synced) (of_view view reports.now))) (of_view view reports.now)) }
     ensures fit { IfSome result (λ c. IsFit c.now) }
 {
-    let most = greatest_synced(changes, view);
+    let most = greatest_synced(reports, view);
     let mut best = None;
-    for change in changes {
-        if change.last == view && change.synced == most {
-            best = Some(lower(best, change));
+    for report in reports {
+        if report.last == view && report.synced == most {
+            best = Some(lower(best, report));
         }
     }
     best
 }
 
 /// Copies of the synced entries that are taken.
-pub fn copy_synced_part(alloc: Global, changes: &[Change], view: u64) -> Result<EntryList, NoMemory>
-    requires { AreFit changes.now }
-    ensures { IfOk result (λ log. log ≡ merged_synced_part (of_view view changes.now)) }
+pub fn copy_synced_part(alloc: Global, reports: &[Report], view: u64) -> Result<EntryList, NoMemory>
+    requires { AreFit reports.now }
+    ensures { IfOk result (λ log. log ≡ merged_synced_part (of_view view reports.now)) }
 {
-    match most_synced(changes, view) {
+    match most_synced(reports, view) {
         None => Ok(List::new(alloc)),
-        Some(change) => List::from_slice(alloc, &change.log.as_slice()[..change.synced as usize]),
+        Some(report) => List::from_slice(alloc, &report.log.as_slice()[..report.synced as usize]),
     }
 }
 
 // Where a log has a key.
 fn place_of(log: &[Entry], key: Key) -> Option<usize>
     ensures found { IfSome result (λ p. (p < length log.now) × (slice_get (keys_of log.now) p ≡ Some key)) }
-    ensures tells { AreRising (keys_of log.now) → is_some result ≡ has_key (keys_of log.now) key }
+    ensures is_there { AreRising (keys_of log.now) → is_some result ≡ has_key (keys_of log.now) key }
 {
     log.binary_search_by_key(&key, |entry| entry.key).ok()
 }
 
-fn holds(change: &Change, view: u64, key: Key) -> bool
-    requires { IsFit change.now }
-    ensures { result ≡ ((change.now.last == view) && has_key (keys_of change.now.log) key) }
+fn holds(report: &Report, view: u64, key: Key) -> bool
+    requires { IsFit report.now }
+    ensures { result ≡ ((report.now.last == view) && has_key (keys_of report.now.log) key) }
 {
-    change.last == view && place_of(change.log.as_slice(), key).is_some()
+    report.last == view && place_of(report.log.as_slice(), key).is_some()
 }
 
 /// How many of the logs hold a key.
-pub fn count_holders(changes: &[Change], view: u64, key: Key) -> usize
-    requires { AreFit changes.now }
-    ensures { result ≡ length (holders (of_view view changes.now) key) }
+pub fn count_holders(reports: &[Report], view: u64, key: Key) -> usize
+    requires { AreFit reports.now }
+    ensures { result ≡ length (holders (of_view view reports.now) key) }
 {
     let mut count = 0;
-    for change in changes {
-        if holds(change, view, key) {
+    for report in reports {
+        if holds(report, view, key) {
             count += 1;
         }
     }
     count
 }
 
-fn lowest_holder(changes: &[Change], view: u64, key: Key) -> Option<&Change>
-    requires { AreFit changes.now }
-    ensures value { option_copied result ≡ lowest (holders (of_view view changes.now) key) }
+fn lowest_holder(reports: &[Report], view: u64, key: Key) -> Option<&Report>
+    requires { AreFit reports.now }
+    ensures value { option_copied result ≡ lowest (holders (of_view view reports.now) key) }
     ensures fit { IfSome result (λ c. IsFit c.now) }
 {
     let mut best = None;
-    for change in changes {
-        if holds(change, view, key) {
-            best = Some(lower(best, change));
+    for report in reports {
+        if holds(report, view, key) {
+            best = Some(lower(best, report));
         }
     }
     best
@@ -129,12 +129,12 @@ fn copy_command(alloc: Global, log: &[Entry], key: Key) -> Result<Blob, NoMemory
 }
 
 /// A key with its command in the log of the lowest sender that holds it.
-pub fn copy_entry(alloc: Global, changes: &[Change], view: u64, key: Key) -> Result<Entry, NoMemory>
-    requires { AreFit changes.now }
-    ensures { IfOk result (λ entry. entry ≡ entry_in (of_view view changes.now) key) }
+pub fn copy_entry(alloc: Global, reports: &[Report], view: u64, key: Key) -> Result<Entry, NoMemory>
+    requires { AreFit reports.now }
+    ensures { IfOk result (λ entry. entry ≡ entry_in (of_view view reports.now) key) }
 {
-    let command = match lowest_holder(changes, view, key) {
-        Some(change) => copy_command(alloc, change.log.as_slice(), key)?,
+    let command = match lowest_holder(reports, view, key) {
+        Some(report) => copy_command(alloc, report.log.as_slice(), key)?,
         None => Blob::from_slice(alloc, &[])?,
     };
     Ok(Entry { key, command })
@@ -143,16 +143,16 @@ pub fn copy_entry(alloc: Global, changes: &[Change], view: u64, key: Key) -> Res
 /// The keys of the logs that are above the last of some entries, in their order.
 pub fn keys_above(
     alloc: Global,
-    changes: &[Change],
+    reports: &[Report],
     view: u64,
     base: &[Entry],
 ) -> Result<BTreeSet<Key>, NoMemory>
-    ensures { IfOk result (λ set. set.keys ≡ merged.keys_above (keys_of base.now) (of_view view changes.now)) }
+    ensures { IfOk result (λ set. set.keys ≡ merged.keys_above (keys_of base.now) (of_view view reports.now)) }
 {
     let mut keys = BTreeSet::new(alloc);
-    for change in changes {
-        if change.last == view {
-            put_keys_above(&mut keys, base, change.log.as_slice())?;
+    for report in reports {
+        if report.last == view {
+            put_keys_above(&mut keys, base, report.log.as_slice())?;
         }
     }
     Ok(keys)

@@ -21,14 +21,14 @@ fn log_of(alloc: Global, sender: u8, deadlines: &[u8]) -> Result<EntryList, NoMe
 }
 
 // The reports of replicas 0, 1 and 2: last view, synced count and log of each.
-fn changes_of(alloc: Global, rows: &[(u64, u32, &[u8])]) -> Result<ViewChanges, NoMemory> {
-    let mut changes = ViewChanges::new(alloc);
+fn with_own_report(alloc: Global, rows: &[(u64, u32, &[u8])]) -> Result<Reports, NoMemory> {
+    let mut reports = Reports::new(alloc);
     for (sender, (last, synced, deadlines)) in rows.iter().enumerate() {
-        if sender > 255 || changes.has_sender(sender as u8) {
-            return Ok(changes);
+        if sender > 255 || reports.has_sender(sender as u8) {
+            return Ok(reports);
         }
         let log = log_of(alloc, sender as u8, deadlines)?;
-        changes.push(Change {
+        reports.push(Report {
             sender: sender as u8,
             last: *last,
             synced: *synced,
@@ -36,7 +36,7 @@ fn changes_of(alloc: Global, rows: &[(u64, u32, &[u8])]) -> Result<ViewChanges, 
             log,
         })?;
     }
-    Ok(changes)
+    Ok(reports)
 }
 
 #[test]
@@ -64,11 +64,13 @@ fn merges(rt: HostRuntime) -> Result<(), Fail> {
         ),
     ];
     for (rows, want) in table {
-        let changes = changes_of(rt.alloc(), &rows).ok().ok_or("there is memory")?;
-        if !changes.are_fit() {
+        let reports = with_own_report(rt.alloc(), &rows)
+            .ok()
+            .ok_or("there is memory")?;
+        if !reports.are_fit() {
             return Err("the reports are fit".into());
         }
-        let log = merge(rt.alloc(), cluster, &changes)
+        let log = merge(rt.alloc(), cluster, &reports)
             .ok()
             .ok_or("there is memory")?;
         assert_eq!(rt; log.as_slice().len(), want.len());

@@ -87,15 +87,19 @@ eight_bytes bytes long fits =
     let prefix = be_bytes_8 (take 8 bytes) (big_number 8 bytes) (omega (arith, length-take 8 bytes)) (AreBytes-take 8 bytes fits) value in
     ap (λ (xs : List ℕ). xs ++ drop 8 bytes) prefix ∙ take-append-drop 8 bytes
 
+-- Numbers of one byte are read back.
 pub wide1 : IsWide 1
 wide1 = record { back = one_byte }
 
+-- Numbers of two bytes are read back.
 pub wide2 : IsWide 2
 wide2 = record { back = two_bytes }
 
+-- Numbers of four bytes are read back.
 pub wide4 : IsWide 4
 wide4 = record { back = four_bytes }
 
+-- Numbers of eight bytes are read back.
 pub wide8 : IsWide 8
 wide8 = record { back = eight_bytes }
 

@@ -1,4 +1,4 @@
--- Whether a key may follow others, told by the last of them and by the ids of all.
+-- Whether a key may follow others, seen by the last of them and by the ids of all.
 use Rattle.std.proofs.Common.{◌≡◌, Bool, true, false, not, ◌&&◌, ◌||◌, List, [], ◌∷◌, ◌++◌, map, refl, sym, ap, subst, ◌∙◌, inl, inr}
 use Rattle.std.proofs.lemmas.Bool.{cases_Bool, or_parts, and_parts, not-true}
 use Rattle.std.specs.List.{list_any}
@@ -51,7 +51,7 @@ follows_all (a ∷ before) k below fresh =
     rw (first, other) (follows_all before k (λ x h. below x (has_later a before x h))
     (or_parts (id_eq (id_of k) (id_of a)) (has_id before (id_of k)) fresh).1)
 
--- the last of rising keys tells for all of them
+-- the last of rising keys is enough for all of them
 pub follows_last : (before : List Key) (k : Key) → AreRising before
     → follows before k ≡ (is_above_last before k && not (has_id before (id_of k)))
 follows_last before k rising =

@@ -113,7 +113,7 @@ next_key_fails key_of before bytes (faults.Bad left) h = rw h refl
 
 -- ---- entries, by their keys
 
--- the key of the last entry tells for all of them
+-- the key of the last entry is enough for all of them
 pub above_entries : (before : List Entry) (last : Option Key) (k : Key)
     → last ≡ option_map (λ (e : Entry). e.key) (slice_get before (length before - 1)) → is_above last k ≡ is_above_last (keys_of before) k
 above_entries [] last k h = rw h refl

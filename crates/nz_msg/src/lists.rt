@@ -188,7 +188,7 @@ fn list_of_keys(alloc: Global, count: u32, bytes: Rest<'_>) -> Result<(KeyList, 
     Ok((keys, rest))
 }
 
-// The keys where all come in turn, as nearly always: that tells without looking back that no id comes twice.
+// The keys where all come in turn, as nearly always: that shows without looking back that no id comes twice.
 fn keys_in_turn(
     alloc: Global,
     count: u32,
@@ -246,7 +246,7 @@ fn list_of_entries(
     Ok((entries, rest))
 }
 
-// The entries where all come in turn, as in nearly every log: that tells without a set that no id comes twice.
+// The entries where all come in turn, as in nearly every log: that shows without a set that no id comes twice.
 fn entries_in_turn(
     alloc: Global,
     count: u32,

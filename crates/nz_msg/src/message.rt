@@ -161,7 +161,7 @@ pub struct StateTellBody {
     pub entries: EntryList,
 }
 
-/// What actors tell each other. Views are at most 2^62 - 1, and keys in a list rise and differ in their
+/// What actors send each other. Views are at most 2^62 - 1, and keys in a list rise and differ in their
 /// ids.
 #[derive(Debug, Drop)]
 pub enum Message {

@@ -28,9 +28,9 @@ pub replied : (model new : ReplicaModel) (id : Id) (place : ℕ) (e : Entry) (es
     → length new.state.log.entries ≡ length model.state.log.entries + 1 → place ≡ length model.state.log.entries
     → after ≡ sends ++ map (parcel (Replica new.me)) (fast_replies new.f new.me new.state id place (lookup (id_eq id) new.state.origin))
     → after ≡ sends ++ map (parcel (Replica model.me)) (release_replies model.f model.me (after_release model.f model.me model.state e es) e)
-replied model new id place e es sends after is h grown at told =
+replied model new id place e es sends after is h grown at sent =
     let last : place ≡ length new.state.log.entries - 1 = omega (arith, grown, at) in
-    told ∙ ap (λ (n : ℕ). sends ++ map (parcel (Replica new.me)) (fast_replies new.f new.me new.state id n (lookup (id_eq id) new.state.origin))) last
+    sent ∙ ap (λ (n : ℕ). sends ++ map (parcel (Replica new.me)) (fast_replies new.f new.me new.state id n (lookup (id_eq id) new.state.origin))) last
     ∙ (λ i.
     let seen : ReplicaModel = (h e es is).1 i in
     let own : Id = (h e es is).0 i in
@@ -67,7 +67,7 @@ goes_on f me end model new sends after (e ∷ es) is may h k r =
     let after-is : after ≡ sends ++ map (parcel (Replica me)) (release_replies f me next e) =
     k e es is ∙ (λ i. sends ++ map (parcel (Replica (r.number i)))
     (release_replies (r.size i) (r.number i) (after_release (r.size i) (r.number i) model.state e es) e)) in
-    let told = ap (λ (t : ReplicaData × List Out). sends ++ map (parcel (Replica me)) t.1) one in
+    let sent = ap (λ (t : ReplicaData × List Out). sends ++ map (parcel (Replica me)) t.1) one in
     let done : Releases f me end (record { f = f; me = me; state = next }) after = record {
       size = refl;
       number = refl;
@@ -76,7 +76,7 @@ goes_on f me end model new sends after (e ∷ es) is may h k r =
       all = ap (λ (x : List Parcel). x ++ map (parcel (Replica me)) (releases f me next es).1) after-is
           ∙ append_assoc sends _ _
           ∙ ap (λ (x : List Parcel). sends ++ x) (sym (map-append (parcel (Replica me)) (release_replies f me next e) (releases f me next es).1))
-          ∙ sym told ∙ r.all;
+          ∙ sym sent ∙ r.all;
     } in
     subst (λ (v : ReplicaModel). Releases f me end v after) (sym new-is) done
 

@@ -43,22 +43,23 @@ decided_fits f replies chosen a all e is =
     let fit = chosen_fits f replies chosen all e in
     subst (λ (o : Option Answer). IfSome o answer.fits) is fit.answer
 
-told_by_fits : (path : Path) (a : Option Answer) → IfSome a answer.fits → IfSome (answer_on_path path a) (λ t. answer.fits t.0)
-told_by_fits path None fit = tt
-told_by_fits path (Some a) fit = fit
+answer_on_path_fits : (path : Path) (a : Option Answer) → IfSome a answer.fits → IfSome (answer_on_path path a) (λ t. answer.fits t.0)
+answer_on_path_fits path None fit = tt
+answer_on_path_fits path (Some a) fit = fit
 
-told_of_fits : (f : ℕ) (replies : List Reply) (o : Option Chosen) → AllByRecursion HasFitAnswer replies
+answer_of_choice_fits : (f : ℕ) (replies : List Reply) (o : Option Chosen) → AllByRecursion HasFitAnswer replies
     → decision f replies ≡ o → IfSome (answer_of_choice o) (λ t. answer.fits t.0)
-told_of_fits f replies None all e = tt
-told_of_fits f replies (Some chosen) all e =
+answer_of_choice_fits f replies None all e = tt
+answer_of_choice_fits f replies (Some chosen) all e =
     let fit = chosen_fits f replies chosen all e in
-    told_by_fits chosen.path (answer_in chosen.reply) fit.answer
+    answer_on_path_fits chosen.path (answer_in chosen.reply) fit.answer
 
-pub told_fits : (f : ℕ) (s : Standing) (reply : Reply) → HasFitAnswer reply → IsFitStanding f s → IfSome (answer_after_reply s reply) (λ t. answer.fits t.0)
-told_fits f (Decided a path) reply fit all = tt
-told_fits f (Open tally) reply fit all =
+pub answer_after_reply_fits : (f : ℕ) (s : Standing) (reply : Reply) → HasFitAnswer reply → IsFitStanding f s
+    → IfSome (answer_after_reply s reply) (λ t. answer.fits t.0)
+answer_after_reply_fits f (Decided a path) reply fit all = tt
+answer_after_reply_fits f (Open tally) reply fit all =
     let t = tally_with_reply tally reply in
-    told_of_fits t.f t.replies (decision t.f t.replies) (fit_note tally.replies reply all.1 fit) refl
+    answer_of_choice_fits t.f t.replies (decision t.f t.replies) (fit_note tally.replies reply all.1 fit) refl
 
 -- A reply of the cluster may be noted in each fit standing.
 pub notable : (f : ℕ) (s : Standing) (reply : Reply) → IsFitStanding f s → IsOfCluster f reply → IsNotable s reply

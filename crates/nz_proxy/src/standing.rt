@@ -22,7 +22,7 @@ impl Standing {
     pub fn note(&mut self, alloc: Global, reply: Reply) -> Result<Option<(Answer, Path)>, NoMemory>
         requires { IsNotable self.old reply }
         ensures standing { OnOk result (self.new ≡ standing_with_reply self.old reply) }
-        ensures told { IfOk result (λ answer. answer ≡ answer_after_reply self.old reply) }
+        ensures answer { IfOk result (λ answer. answer ≡ answer_after_reply self.old reply) }
         ensures fit { (f : ℕ) → HasFitAnswer reply → IsFitStanding f self.old → IsFitStanding f self.new }
     {
         match self {
@@ -34,9 +34,9 @@ impl Standing {
                     Some(decision) => {
                         let path = decision.path;
                         let answer = copy_answer(alloc, decision.answer)?;
-                        let told = copy_answer(alloc, decision.answer)?;
+                        let given = copy_answer(alloc, decision.answer)?;
                         *self = Standing::Decided { answer, path };
-                        Ok(Some((told, path)))
+                        Ok(Some((given, path)))
                     }
                 }
             }

@@ -154,10 +154,10 @@ impl ProxyState {
         requires reply { IsOfCluster self.old.f reply }
         requires answer { HasFitAnswer reply }
         ensures same { IsSameProxy self.old self.new }
-        ensures state { IfOk result (λ told. after_replica_reply self.old.f self.old.state id reply
-            (standing_of self.old.state id) ≡ (self.new.state, answers_to_client id told)) }
-        ensures client { IfOk result (λ told. IsSome told → id.client ≤ MAX_CLIENT) }
-        ensures fit { IfOk result (λ told. IfSome told (λ t. fields.answer.fits t.0)) }
+        ensures state { IfOk result (λ given. after_replica_reply self.old.f self.old.state id reply
+            (standing_of self.old.state id) ≡ (self.new.state, answers_to_client id given)) }
+        ensures client { IfOk result (λ given. IsSome given → id.client ≤ MAX_CLIENT) }
+        ensures fit { IfOk result (λ given. IfSome given (λ t. fields.answer.fits t.0)) }
     {
         let alloc = self.alloc;
         match self.standings.get_mut(&id) {

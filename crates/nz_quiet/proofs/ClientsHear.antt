@@ -27,15 +27,15 @@ use Rattle.nz_machine.proofs.lists.EachItem.{all_imply}
 use Rattle.nz_machine.proofs.journals.InTurn.{none_without}
 use Rattle.nz_quiet.specs.Words.{Word}
 use Rattle.nz_quiet.specs.Folds.{state_heard, outs_heard}
-use Rattle.nz_quiet.specs.ClientTicks.{MayAnswer, ComesAnswer, told_heard, one_older, new_attempt, IsOpenAfter, OpenBefore, OpenNow}
+use Rattle.nz_quiet.specs.ClientTicks.{MayAnswer, ComesAnswer, seen_heard, one_older, new_attempt, IsOpenAfter, OpenBefore, OpenNow}
 use Rattle.nz_quiet.specs.ClientTicks.{AreYoung, IsNewRequest, Asks, AreSentWithin, IsClientAfter}
 use Rattle.nz_quiet.proofs.Elements.{has_mapped}
 use Rattle.nz_quiet.proofs.ClientsLists.{open_has, others_left, left_others}
 use Rattle.nz_quiet.proofs.ClientsOpen.{window_opens, window_accepts, window_sends}
 
--- ---- what is told
+-- ---- what is seen
 
--- new requests are told with their numbers
+-- new requests are seen with their numbers
 sent_within : (c : ℕ) (script : List Request) (num more : ℕ) → AreSentWithin c num (num + more) (sent_after c script num more)
 sent_within c script num zero id command has = absurd has
 sent_within c script num (suc more) id command (inl same) =
@@ -50,9 +50,9 @@ sent_within c script num (suc more) id command (inr has) =
 
 module _ (g : Group) (c : ℕ) (s : ClientData) where
   -- with the new requests of an event
-  told_sent : (ws : List Word) (t v : ClientData) (outs : List Out) (told : List ClientEvent) → s.sent ≤ t.sent → t.sent ≤ v.sent
-      → IsClientAfter g c s ws v outs told → IsClientAfter g c s ws v outs (told ++ sent_by c (script_of g c) t v)
-  told_sent ws t v outs told first le h =
+  sent_seen : (ws : List Word) (t v : ClientData) (outs : List Out) (seen : List ClientEvent) → s.sent ≤ t.sent → t.sent ≤ v.sent
+      → IsClientAfter g c s ws v outs seen → IsClientAfter g c s ws v outs (seen ++ sent_by c (script_of g c) t v)
+  sent_seen ws t v outs seen first le h =
       let new = sent_by c (script_of g c) t v in
       record {
         ticks = h.ticks;
@@ -66,12 +66,12 @@ module _ (g : Group) (c : ℕ) (s : ClientData) where
             body = k.body;
             among = k.among;
             of_it = k.of_it;
-            accepted = has_left told new (Accepted (id_at c a.num) k.body.answer paths.Fast) k.accepted;
+            accepted = has_left seen new (Accepted (id_at c a.num) k.body.answer paths.Fast) k.accepted;
           })
         ];
         new = h.new;
         sends = h.sends;
-        sent = λ id command has. elim (has_split told new (Sent id command) has) [
+        sent = λ id command has. elim (has_split seen new (Sent id command) has) [
           | inl old ↦ h.sent id command old
           | inr now ↦
               let k = sent_within c (script_of g c) t.sent (v.sent - t.sent) id command now in
@@ -138,18 +138,18 @@ module _ (g : Group) (c : ℕ) (s : ClientData) where
       let filled = window_opens g c s [] u [] [] start in
       let none = none_again s.attempts young in
       let sends : v.1 ≡ retries g.proxies script s.attempts ++ v.1 = ap (λ (os : List Out). os ++ v.1) (sym none) in
-      told_sent [] s v.0 (retries g.proxies script s.attempts ++ v.1) [] (omega arith) (window_sends g.window g.proxies c script u)
+      sent_seen [] s v.0 (retries g.proxies script s.attempts ++ v.1) [] (omega arith) (window_sends g.window g.proxies c script u)
       (subst (λ (os : List Out). IsClientAfter g c s [] v.0 os []) sends filled)
 
   -- ---- an answer
 
   -- without the answered request, which was accepted if it was open
-  answered : (ws : List Word) (t : ClientData) (outs : List Out) (told more : List ClientEvent) (k p : ℕ) (b : AnswerBody) → b.num ≤ s.sent
+  answered : (ws : List Word) (t : ClientData) (outs : List Out) (seen more : List ClientEvent) (k p : ℕ) (b : AnswerBody) → b.num ≤ s.sent
       → (is_open b.num t.attempts ≡ true → Has more (Accepted (id_at c b.num) b.answer paths.Fast))
-      → ((id : Id) (command : List ℕ) → Has more (Sent id command) → ⊥) → IsClientAfter g c s ws t outs told
+      → ((id : Id) (command : List ℕ) → Has more (Sent id command) → ⊥) → IsClientAfter g c s ws t outs seen
       → IsClientAfter g c s (ws ++ (Proxy p, messages.Answer b) ∷ [])
-      (record t { accepted = k; attempts = without_attempt b.num t.attempts }) outs (told ++ more)
-  answered ws t outs told more k p b before accepts silent h =
+      (record t { accepted = k; attempts = without_attempt b.num t.attempts }) outs (seen ++ more)
+  answered ws t outs seen more k p b before accepts silent h =
       let w : Word = (Proxy p, messages.Answer b) in
       let u : ClientData = record t { accepted = k; attempts = without_attempt b.num t.attempts } in
       let newer : (num : ℕ) → s.sent < num → eqb num b.num ≡ false = λ num above. grind (arith, nat_tests, before, above) in
@@ -163,14 +163,14 @@ module _ (g : Group) (c : ℕ) (s : ClientData) where
           | inl still ↦ elim (cases_Bool (eqb a.num b.num)) [
             | inl own ↦
                 let same = eqb-true a.num b.num own in
-                let told_now = accepts (open_has b.num t.attempts (one_older a) still same) in
+                let seen_now = accepts (open_has b.num t.attempts (one_older a) still same) in
                 inr (record {
                   proxy = p;
                   body = b;
                   among = has_right ws (w ∷ []) w (inl refl);
                   of_it = sym same;
-                  accepted = subst (λ (num : ℕ). Has (told ++ more) (Accepted (id_at c num) b.answer paths.Fast)) (sym same)
-                      (has_right told more (Accepted (id_at c b.num) b.answer paths.Fast) told_now);
+                  accepted = subst (λ (num : ℕ). Has (seen ++ more) (Accepted (id_at c num) b.answer paths.Fast)) (sym same)
+                      (has_right seen more (Accepted (id_at c b.num) b.answer paths.Fast) seen_now);
                 })
             | inr other ↦ inl (others_left b.num t.attempts (one_older a) still other)
           ]
@@ -179,12 +179,12 @@ module _ (g : Group) (c : ℕ) (s : ClientData) where
             body = gone.body;
             among = has_left ws (w ∷ []) (Proxy gone.proxy, messages.Answer gone.body) gone.among;
             of_it = gone.of_it;
-            accepted = has_left told more (Accepted (id_at c a.num) gone.body.answer paths.Fast) gone.accepted;
+            accepted = has_left seen more (Accepted (id_at c a.num) gone.body.answer paths.Fast) gone.accepted;
           })
         ];
         new = λ num above most. others_left b.num t.attempts (new_attempt g c num) (h.new num above most) (newer num above);
         sends = all_imply (IsNewRequest g c s t) (IsNewRequest g c s u) (λ o asks. still_new t k b before o asks) outs h.sends;
-        sent = λ id command has. elim (has_split told more (Sent id command) has) [
+        sent = λ id command has. elim (has_split seen more (Sent id command) has) [
           | inl old ↦ h.sent id command old
           | inr now ↦ absurd (silent id command now)
         ];
@@ -214,10 +214,10 @@ module _ (g : Group) (c : ℕ) (s : ClientData) where
           let other : eqb num b.num ≡ false = grind (arith, nat_tests, before, above) in
           Asks num above most (others_left b.num t.attempts (new_attempt g c num) has other)
 
-  -- an answer that was accepted is told, and no request with it
-  accepted_told : (t v : ClientData) (b : AnswerBody) → b.path ≡ paths.Fast → v.accepted ≡ t.accepted + 1
+  -- an answer that was accepted is seen, and no request with it
+  accepted_seen : (t v : ClientData) (b : AnswerBody) → b.path ≡ paths.Fast → v.accepted ≡ t.accepted + 1
       → accepted_in c t v (messages.Answer b) ≡ Accepted (id_at c b.num) b.answer paths.Fast ∷ []
-  accepted_told t v b fast is =
+  accepted_seen t v b fast is =
       let more : ltb t.accepted v.accepted ≡ true = lt-ltb t.accepted v.accepted (omega (arith, is)) in
       ap (λ (x : Bool). cond x (Accepted (id_at c b.num) b.answer b.path ∷ []) []) more
       ∙ ap (λ (q : Path). Accepted (id_at c b.num) b.answer q ∷ []) fast
@@ -228,32 +228,32 @@ module _ (g : Group) (c : ℕ) (s : ClientData) where
 
   -- a client after one answer more
   abbrev Next : List Word → ClientData → List Out → List ClientEvent → Word → ClientData × List Out → Type 0
-  Next ws t outs told w v =
-      IsClientAfter g c s (ws ++ w ∷ []) v.0 (outs ++ v.1) (told ++ (accepted_in c t v.0 w.1 ++ sent_by c (script_of g c) t v.0))
+  Next ws t outs seen w v =
+      IsClientAfter g c s (ws ++ w ∷ []) v.0 (outs ++ v.1) (seen ++ (accepted_in c t v.0 w.1 ++ sent_by c (script_of g c) t v.0))
 
   -- an answer to an open request
-  accepted_step : (ws : List Word) (t : ClientData) (outs : List Out) (told : List ClientEvent) (p : ℕ) (b : AnswerBody) → b.path ≡ paths.Fast
-      → b.num ≤ s.sent → IsClientAfter g c s ws t outs told
-      → Next ws t outs told (Proxy p, messages.Answer b) (fill_window g.window g.proxies c (script_of g c) (after_acceptance b.num t))
-  accepted_step ws t outs told p b fast before h =
+  accepted_step : (ws : List Word) (t : ClientData) (outs : List Out) (seen : List ClientEvent) (p : ℕ) (b : AnswerBody) → b.path ≡ paths.Fast
+      → b.num ≤ s.sent → IsClientAfter g c s ws t outs seen
+      → Next ws t outs seen (Proxy p, messages.Answer b) (fill_window g.window g.proxies c (script_of g c) (after_acceptance b.num t))
+  accepted_step ws t outs seen p b fast before h =
       let w : Word = (Proxy p, messages.Answer b) in
       let script = script_of g c in
       let u = after_acceptance b.num t in
       let v = fill_window g.window g.proxies c script u in
       let acceptance = Accepted (id_at c b.num) b.answer paths.Fast ∷ [] in
-      let told_is = accepted_told t v.0 b fast (window_accepts g.window g.proxies c script u) in
+      let seen_is = accepted_seen t v.0 b fast (window_accepts g.window g.proxies c script u) in
       let first = h.more in
-      let now = answered ws t outs told acceptance (t.accepted + 1) p b before (λ _. inl refl) (acceptance_silent b) h in
-      let filled = window_opens g c s (ws ++ w ∷ []) u outs (told ++ acceptance) now in
-      let whole = told_sent (ws ++ w ∷ []) t v.0 (outs ++ v.1) (told ++ acceptance) first (window_sends g.window g.proxies c script u) filled in
+      let now = answered ws t outs seen acceptance (t.accepted + 1) p b before (λ _. inl refl) (acceptance_silent b) h in
+      let filled = window_opens g c s (ws ++ w ∷ []) u outs (seen ++ acceptance) now in
+      let whole = sent_seen (ws ++ w ∷ []) t v.0 (outs ++ v.1) (seen ++ acceptance) first (window_sends g.window g.proxies c script u) filled in
       let sents = sent_by c script t v.0 in
-      subst (λ (es : List ClientEvent). IsClientAfter g c s (ws ++ w ∷ []) v.0 (outs ++ v.1) (told ++ (es ++ sents))) (sym told_is)
-      (subst (IsClientAfter g c s (ws ++ w ∷ []) v.0 (outs ++ v.1)) (append_assoc told acceptance sents) whole)
+      subst (λ (es : List ClientEvent). IsClientAfter g c s (ws ++ w ∷ []) v.0 (outs ++ v.1) (seen ++ (es ++ sents))) (sym seen_is)
+      (subst (IsClientAfter g c s (ws ++ w ∷ []) v.0 (outs ++ v.1)) (append_assoc seen acceptance sents) whole)
 
   -- an answer to another
-  other_step : (ws : List Word) (t : ClientData) (outs : List Out) (told : List ClientEvent) (p : ℕ) (b : AnswerBody) → b.num ≤ s.sent
-      → is_open b.num t.attempts ≡ false → IsClientAfter g c s ws t outs told → Next ws t outs told (Proxy p, messages.Answer b) (t, [])
-  other_step ws t outs told p b before closed h =
+  other_step : (ws : List Word) (t : ClientData) (outs : List Out) (seen : List ClientEvent) (p : ℕ) (b : AnswerBody) → b.num ≤ s.sent
+      → is_open b.num t.attempts ≡ false → IsClientAfter g c s ws t outs seen → Next ws t outs seen (Proxy p, messages.Answer b) (t, [])
+  other_step ws t outs seen p b before closed h =
       let w : Word = (Proxy p, messages.Answer b) in
       let script = script_of g c in
       let no_more : ltb t.accepted t.accepted ≡ false = grind (arith, nat_tests) in
@@ -261,57 +261,57 @@ module _ (g : Group) (c : ℕ) (s : ClientData) where
       ap (λ (x : Bool). cond x (Accepted (id_at c b.num) b.answer b.path ∷ []) []) no_more in
       let not_open : is_open b.num t.attempts ≡ true → Has [] (Accepted (id_at c b.num) b.answer paths.Fast) = λ yes. absurd cc in
       let first = h.more in
-      let now = answered ws t outs told [] t.accepted p b before not_open (λ id command has. has) h in
+      let now = answered ws t outs seen [] t.accepted p b before not_open (λ id command has. has) h in
       let attempts = none_without b.num t.attempts closed in
       let same : record t { accepted = t.accepted; attempts = without_attempt b.num t.attempts } ≡ t = λ i. record t { attempts = attempts i } in
-      let there = subst (λ (x : ClientData). IsClientAfter g c s (ws ++ w ∷ []) x outs (told ++ [])) same now in
-      let whole = told_sent (ws ++ w ∷ []) t t outs (told ++ []) first (omega arith) there in
+      let there = subst (λ (x : ClientData). IsClientAfter g c s (ws ++ w ∷ []) x outs (seen ++ [])) same now in
+      let whole = sent_seen (ws ++ w ∷ []) t t outs (seen ++ []) first (omega arith) there in
       let sents = sent_by c script t t in
-      let joined = subst (IsClientAfter g c s (ws ++ w ∷ []) t outs) (append_assoc told [] sents) whole in
-      subst (λ (es : List ClientEvent). IsClientAfter g c s (ws ++ w ∷ []) t (outs ++ []) (told ++ (es ++ sents))) (sym none_accepted)
-      (subst (λ (os : List Out). IsClientAfter g c s (ws ++ w ∷ []) t os (told ++ sents)) (sym (append-nil outs)) joined)
+      let joined = subst (IsClientAfter g c s (ws ++ w ∷ []) t outs) (append_assoc seen [] sents) whole in
+      subst (λ (es : List ClientEvent). IsClientAfter g c s (ws ++ w ∷ []) t (outs ++ []) (seen ++ (es ++ sents))) (sym none_accepted)
+      (subst (λ (os : List Out). IsClientAfter g c s (ws ++ w ∷ []) t os (seen ++ sents)) (sym (append-nil outs)) joined)
 
-  word_step : (ws : List Word) (t : ClientData) (outs : List Out) (told : List ClientEvent) (w : Word) → MayAnswer s w → IsClientAfter g c s ws t outs told
-      → Next ws t outs told w (message_step g (Client c) t w.0 w.1)
+  word_step : (ws : List Word) (t : ClientData) (outs : List Out) (seen : List ClientEvent) (w : Word) → MayAnswer s w → IsClientAfter g c s ws t outs seen
+      → Next ws t outs seen w (message_step g (Client c) t w.0 w.1)
   unfolding accept_rule
-  word_step ws t outs told _ (ComesAnswer p b fast before) h = elim (cases_Bool (is_open b.num t.attempts)) [
+  word_step ws t outs seen _ (ComesAnswer p b fast before) h = elim (cases_Bool (is_open b.num t.attempts)) [
     | inl held ↦
         let v = fill_window g.window g.proxies c (script_of g c) (after_acceptance b.num t) in
-        subst (Next ws t outs told (Proxy p, messages.Answer b)) (sym (ap (λ (x : Bool). cond x v (t, [])) held))
-        (accepted_step ws t outs told p b fast before h)
+        subst (Next ws t outs seen (Proxy p, messages.Answer b)) (sym (ap (λ (x : Bool). cond x v (t, [])) held))
+        (accepted_step ws t outs seen p b fast before h)
     | inr closed ↦
         let v = fill_window g.window g.proxies c (script_of g c) (after_acceptance b.num t) in
-        subst (Next ws t outs told (Proxy p, messages.Answer b)) (sym (ap (λ (x : Bool). cond x v (t, [])) closed))
-        (other_step ws t outs told p b before closed h)
+        subst (Next ws t outs seen (Proxy p, messages.Answer b)) (sym (ap (λ (x : Bool). cond x v (t, [])) closed))
+        (other_step ws t outs seen p b before closed h)
   ]
 
   -- ---- all answers
 
-  all_heard : (ws vs : List Word) (t : ClientData) (outs : List Out) (told : List ClientEvent) → AllByRecursion (MayAnswer s) vs
-      → IsClientAfter g c s ws t outs told
-      → IsClientAfter g c s (ws ++ vs) (state_heard g (Client c) t vs) (outs ++ outs_heard g (Client c) t vs) (told ++ told_heard g c t vs)
-  unfolding state_heard outs_heard told_heard
-  all_heard ws [] t outs told may h =
-      subst (λ (xs : List Word). IsClientAfter g c s xs t (outs ++ []) (told ++ [])) (sym (append-nil ws))
-      (subst (λ (os : List Out). IsClientAfter g c s ws t os (told ++ [])) (sym (append-nil outs))
-      (subst (IsClientAfter g c s ws t outs) (sym (append-nil told)) h))
-  all_heard ws (w ∷ vs) t outs told may h =
+  all_heard : (ws vs : List Word) (t : ClientData) (outs : List Out) (seen : List ClientEvent) → AllByRecursion (MayAnswer s) vs
+      → IsClientAfter g c s ws t outs seen
+      → IsClientAfter g c s (ws ++ vs) (state_heard g (Client c) t vs) (outs ++ outs_heard g (Client c) t vs) (seen ++ seen_heard g c t vs)
+  unfolding state_heard outs_heard seen_heard
+  all_heard ws [] t outs seen may h =
+      subst (λ (xs : List Word). IsClientAfter g c s xs t (outs ++ []) (seen ++ [])) (sym (append-nil ws))
+      (subst (λ (os : List Out). IsClientAfter g c s ws t os (seen ++ [])) (sym (append-nil outs))
+      (subst (IsClientAfter g c s ws t outs) (sym (append-nil seen)) h))
+  all_heard ws (w ∷ vs) t outs seen may h =
       let v = message_step g (Client c) t w.0 w.1 in
       let events = accepted_in c t v.0 w.1 ++ sent_by c (script_of g c) t v.0 in
-      let now = word_step ws t outs told w may.0 h in
-      let rest = all_heard (ws ++ w ∷ []) vs v.0 (outs ++ v.1) (told ++ events) may.1 now in
+      let now = word_step ws t outs seen w may.0 h in
+      let rest = all_heard (ws ++ w ∷ []) vs v.0 (outs ++ v.1) (seen ++ events) may.1 now in
       let last = state_heard g (Client c) v.0 vs in
       let more = outs_heard g (Client c) v.0 vs in
-      let later = told_heard g c v.0 vs in
-      subst (λ (xs : List Word). IsClientAfter g c s xs last (outs ++ (v.1 ++ more)) (told ++ (events ++ later))) (append_assoc ws (w ∷ []) vs)
-      (subst (λ (os : List Out). IsClientAfter g c s ((ws ++ w ∷ []) ++ vs) last os (told ++ (events ++ later))) (append_assoc outs v.1 more)
-      (subst (IsClientAfter g c s ((ws ++ w ∷ []) ++ vs) last ((outs ++ v.1) ++ more)) (append_assoc told events later) rest))
+      let later = seen_heard g c v.0 vs in
+      subst (λ (xs : List Word). IsClientAfter g c s xs last (outs ++ (v.1 ++ more)) (seen ++ (events ++ later))) (append_assoc ws (w ∷ []) vs)
+      (subst (λ (os : List Out). IsClientAfter g c s ((ws ++ w ∷ []) ++ vs) last os (seen ++ (events ++ later))) (append_assoc outs v.1 more)
+      (subst (IsClientAfter g c s ((ws ++ w ∷ []) ++ vs) last ((outs ++ v.1) ++ more)) (append_assoc seen events later) rest))
 
   pub client_tick_here : (clock : ℕ) (ws : List Word) → s.ticks < last_tick → AreYoung s
       → s.sent ≤ length (script_of g c) → AllByRecursion (MayAnswer s) ws
       → let t = tick_step g (Client c) s clock in
       IsClientAfter g c s ws (state_heard g (Client c) t.0 ws) (t.1 ++ outs_heard g (Client c) t.0 ws)
-      (sent_by c (script_of g c) s t.0 ++ told_heard g c t.0 ws)
+      (sent_by c (script_of g c) s t.0 ++ seen_heard g c t.0 ws)
   client_tick_here clock ws low young few may =
       let t = tick_step g (Client c) s clock in
       all_heard [] ws t.0 t.1 (sent_by c (script_of g c) s t.0) may (ticked clock low young few)
@@ -320,5 +320,5 @@ pub client_tick : (g : Group) (c : ℕ) (s : ClientData) (clock : ℕ) (ws : Lis
     → AreYoung s → s.sent ≤ length (script_of g c) → AllByRecursion (MayAnswer s) ws
     → let t = tick_step g (Client c) s clock in
     IsClientAfter g c s ws (state_heard g (Client c) t.0 ws) (t.1 ++ outs_heard g (Client c) t.0 ws)
-    (sent_by c (script_of g c) s t.0 ++ told_heard g c t.0 ws)
+    (sent_by c (script_of g c) s t.0 ++ seen_heard g c t.0 ws)
 client_tick g c s clock ws low young few may = client_tick_here g c s clock ws low young few may

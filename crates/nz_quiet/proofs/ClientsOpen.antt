@@ -40,11 +40,11 @@ module _ (g : Group) (c : ℕ) (s : ClientData) where
       let asks : List ℕ → Out = λ bytes. (Proxy (c % g.proxies), messages.Request (record { num = sent + 1; command = bytes })) in
       ap asks command
 
-  opened : (ws : List Word) (t : ClientData) (outs : List Out) (told : List ClientEvent) (o : Option Request)
-      → if_due t.ticks (slice_get (script_of g c) t.sent) ≡ o → IsClientAfter g c s ws t outs told
-      → IsClientAfter g c s ws (after_opening g.proxies c t o).0 (outs ++ (after_opening g.proxies c t o).1) told
-  opened ws t outs told None due h = subst (λ (os : List Out). IsClientAfter g c s ws t os told) (sym (append-nil outs)) h
-  opened ws t outs told (Some request) due h =
+  opened : (ws : List Word) (t : ClientData) (outs : List Out) (seen : List ClientEvent) (o : Option Request)
+      → if_due t.ticks (slice_get (script_of g c) t.sent) ≡ o → IsClientAfter g c s ws t outs seen
+      → IsClientAfter g c s ws (after_opening g.proxies c t o).0 (outs ++ (after_opening g.proxies c t o).1) seen
+  opened ws t outs seen None due h = subst (λ (os : List Out). IsClientAfter g c s ws t os seen) (sym (append-nil outs)) h
+  opened ws t outs seen (Some request) due h =
       let num = t.sent + 1 in
       let new = new_attempt g c num in
       let v = (after_opening g.proxies c t (Some request)).0 in
@@ -76,18 +76,18 @@ module _ (g : Group) (c : ℕ) (s : ClientData) where
         sent = λ id command has. let k = h.sent id command has in let most = k.2 in (k.0, k.1, omega (arith, most));
       }
 
-  places : (free : ℕ) (ws : List Word) (t : ClientData) (outs : List Out) (told : List ClientEvent) → IsClientAfter g c s ws t outs told
-      → IsClientAfter g c s ws (fill_places free g.proxies c (script_of g c) t).0 (outs ++ (fill_places free g.proxies c (script_of g c) t).1) told
-  places zero ws t outs told h = subst (λ (os : List Out). IsClientAfter g c s ws t os told) (sym (append-nil outs)) h
-  places (suc free) ws t outs told h =
+  places : (free : ℕ) (ws : List Word) (t : ClientData) (outs : List Out) (seen : List ClientEvent) → IsClientAfter g c s ws t outs seen
+      → IsClientAfter g c s ws (fill_places free g.proxies c (script_of g c) t).0 (outs ++ (fill_places free g.proxies c (script_of g c) t).1) seen
+  places zero ws t outs seen h = subst (λ (os : List Out). IsClientAfter g c s ws t os seen) (sym (append-nil outs)) h
+  places (suc free) ws t outs seen h =
       let v = open_next g.proxies c (script_of g c) t in
       let u = fill_places free g.proxies c (script_of g c) v.0 in
-      let now = opened ws t outs told (if_due t.ticks (slice_get (script_of g c) t.sent)) refl h in
-      subst (λ (os : List Out). IsClientAfter g c s ws u.0 os told) (append_assoc outs v.1 u.1) (places free ws v.0 (outs ++ v.1) told now)
+      let now = opened ws t outs seen (if_due t.ticks (slice_get (script_of g c) t.sent)) refl h in
+      subst (λ (os : List Out). IsClientAfter g c s ws u.0 os seen) (append_assoc outs v.1 u.1) (places free ws v.0 (outs ++ v.1) seen now)
 
-  pub window_opens : (ws : List Word) (t : ClientData) (outs : List Out) (told : List ClientEvent) → IsClientAfter g c s ws t outs told
-      → let v = fill_window g.window g.proxies c (script_of g c) t in IsClientAfter g c s ws v.0 (outs ++ v.1) told
-  window_opens ws t outs told h = places (g.window - length t.attempts) ws t outs told h
+  pub window_opens : (ws : List Word) (t : ClientData) (outs : List Out) (seen : List ClientEvent) → IsClientAfter g c s ws t outs seen
+      → let v = fill_window g.window g.proxies c (script_of g c) t in IsClientAfter g c s ws v.0 (outs ++ v.1) seen
+  window_opens ws t outs seen h = places (g.window - length t.attempts) ws t outs seen h
 
 -- nothing is accepted by it
 places_accept : (free proxies me : ℕ) (script : List Request) (t : ClientData) → (fill_places free proxies me script t).0.accepted ≡ t.accepted

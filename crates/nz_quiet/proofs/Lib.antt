@@ -29,7 +29,7 @@ pub mod NextTick
 pub mod QuietStep
 pub mod QuietTicks
 pub mod QuietRuns
-pub mod Told
+pub mod Seen
 pub mod Served
 pub mod RunPaces
 pub mod PaceParts

@@ -21,7 +21,7 @@ use Rattle.nz_quiet.specs.Requests.{own_proxy}
 use Rattle.nz_quiet.specs.Folds.{outs_of, heard_by}
 use Rattle.nz_quiet.specs.Replicas.{bodies_of, IsTicked, HasHeard}
 use Rattle.nz_quiet.specs.ProxyTicks.{said_of, IsProxyAfter, IsAnsweredFast}
-use Rattle.nz_quiet.specs.ClientTicks.{told_heard, IsClientAfter}
+use Rattle.nz_quiet.specs.ClientTicks.{seen_heard, IsClientAfter}
 use Rattle.nz_quiet.specs.Invariant.{standing_in}
 
 -- a replica had its clock, and then heard what was in flight to it
@@ -34,11 +34,11 @@ pub record IsReplicaAfter (g : Group) (t r : ℕ) (L E : List Entry) (flight : L
   pub sends : outs ≡ first ++ second
 
 -- what a client sees in a tick
-abbrev pub told_of : Group → ℕ → List Record → ℕ → List (Actor × Out) → List ClientEvent
-told_of g c J clock flight =
+abbrev pub seen_of : Group → ℕ → List Record → ℕ → List (Actor × Out) → List ClientEvent
+seen_of g c J clock flight =
     let s = state_after g (Client c) J in
     let t = (tick_step g (Client c) s clock).0 in
-    sent_by c (script_of g c) s t ++ told_heard g c t (heard_by (Client c) flight)
+    sent_by c (script_of g c) s t ++ seen_heard g c t (heard_by (Client c) flight)
 
 -- what each actor did in the tick after t
 pub record IsNextTick (g : Group) (t : ℕ) (L E : List Entry) (flight : List (Actor × Out)) (J K : List Record) (next : List (Actor × Out)) : Type 0 where
@@ -58,4 +58,4 @@ pub record IsNextTick (g : Group) (t : ℕ) (L E : List Entry) (flight : List (A
       → IsAnsweredFast (said_of g L) id (state_after g (Proxy (own_proxy g id.client)) K) (outs_of (Proxy (own_proxy g id.client)) next)
   pub clients : (c : ℕ) → c < length g.scripts
       → IsClientAfter g c (state_after g (Client c) J) (heard_by (Client c) flight) (state_after g (Client c) K) (outs_of (Client c) next)
-      (told_of g c J (UNITS_PER_TICK * suc t) flight)
+      (seen_of g c J (UNITS_PER_TICK * suc t) flight)

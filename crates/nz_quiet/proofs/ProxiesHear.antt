@@ -89,4 +89,4 @@ all_answered f said s t time ws outs id least h opened each = answered (standing
         let none = k.undecided in
         let some = fast.is in
         absurd cc
-    answered before after open_before is (Decides was now replied told) = record { standing = is ∙ now; told = told }
+    answered before after open_before is (Decides was now replied sends_answer) = record { standing = is ∙ now; sends_answer = sends_answer }

@@ -35,7 +35,7 @@ use Rattle.nz_machine.proofs.shows.Shows.{all_below}
 use Rattle.nz_quiet.specs.Words.{Word}
 use Rattle.nz_quiet.specs.Replies.{IsReply}
 use Rattle.nz_quiet.specs.ProxyTicks.{AreTicks, IsBound, Said, reply_to, MayCome, ComesRequest, ComesFast, ComesSlow, IsAskedIn, IsRepliedIn, AreNoted}
-use Rattle.nz_quiet.specs.ProxyTicks.{Stands, Stays, Opens, Waits, Decides, stamped, MaySend, Stamps, Tells, IsStampedIn, IsProxyAfter}
+use Rattle.nz_quiet.specs.ProxyTicks.{Stands, Stays, Opens, Waits, Decides, stamped, MaySend, Stamps, Answers, IsStampedIn, IsProxyAfter}
 use Rattle.nz_quiet.proofs.Elements.{has_mapped, has_number}
 use Rattle.nz_quiet.proofs.ProxiesBounds.{two_bounds, sampled}
 use Rattle.nz_quiet.proofs.ProxiesTally.{good_decide}
@@ -54,7 +54,7 @@ module _ (f : ℕ) (said : Said) (s : ProxyData) (time : ℕ) where
 
   sends_more : (ws vs : List Word) (o : Out) → MaySend f said s time ws o → MaySend f said s time (ws ++ vs) o
   sends_more ws vs _ (Stamps c b bound r has is lt) = Stamps c b bound r (has_left ws vs (Client c, messages.Request b) has) is lt
-  sends_more ws vs _ (Tells id is replied) = Tells id is (replied_more ws vs id replied)
+  sends_more ws vs _ (Answers id is replied) = Answers id is (replied_more ws vs id replied)
 
   after_step : (ws : List Word) (w : Word) (outs : List Out) (u : ProxyData) (id : Id) (t : ProxyData × List Out)
       → ((x : Id) → id_eq x id ≡ false → IsSilentOn w x) → IsProxyAfter f said s time ws u outs → OwnStep ws w outs u id t
@@ -110,7 +110,7 @@ module _ (f : ℕ) (said : Said) (s : ProxyData) (time : ℕ) where
   asked_is ws outs id before after none (Stays is not_asked not_replied) = inl (is ∙ none)
   asked_is ws outs id before after none (Opens first is asked) = inr is
   asked_is ws outs id before after none (Waits rs first is replied h) = absurd cc
-  asked_is ws outs id before after none (Decides first is replied told) = absurd cc
+  asked_is ws outs id before after none (Decides first is replied sends_answer) = absurd cc
 
   request_step : (ws : List Word) (outs : List Out) (u : ProxyData) (c : ℕ) (b : RequestBody) → IsProxyAfter f said s time ws u outs
       → standing_of s (id_at c b.num) ≡ None → OwnStep ws (Client c, messages.Request b) outs u (id_at c b.num) (stamp_rule f u c b)
@@ -231,8 +231,8 @@ module _ (f : ℕ) (said : Said) (s : ProxyData) (time : ℕ) where
       let n = noted_is id rs r h.good in
       let replied : IsRepliedIn (ws ++ w ∷ []) id = record { replica = r; body = b; among = has_right ws (w ∷ []) w (inl refl); of_it = refl } in
       let fast = good_decide f (said.digest id) said.vector a noted chosen least n.good is in
-      let told = answer_to_client id a paths.Fast ∷ [] in
-      let same : after_chosen_answer u id noted chosen.path (answer_in chosen.reply) ≡ (with_standing u id (Decided a paths.Fast), told) =
+      let answers = answer_to_client id a paths.Fast ∷ [] in
+      let same : after_chosen_answer u id noted chosen.path (answer_in chosen.reply) ≡ (with_standing u id (Decided a paths.Fast), answers) =
       ap (λ (p : Path). after_chosen_answer u id noted p (answer_in chosen.reply)) fast.0 ∙ ap (after_chosen_answer u id noted paths.Fast) fast.1 in
       subst (OwnStep ws w outs u id) (sym same) (record {
         up = refl;
@@ -240,9 +240,9 @@ module _ (f : ℕ) (said : Said) (s : ProxyData) (time : ℕ) where
         samples = refl;
         others = λ x other. lookup_other u.standings x id (Decided a paths.Fast) other;
         own = Decides opened (lookup_inserted u.standings id (Decided a paths.Fast)) replied
-            (has_right outs told (answer_to_client id a paths.Fast) (inl refl));
-        sends = (Tells id opened replied, tt);
-        requests = no_request r (messages.FastReply b) told;
+            (has_right outs answers (answer_to_client id a paths.Fast) (inl refl));
+        sends = (Answers id opened replied, tt);
+        requests = no_request r (messages.FastReply b) answers;
       })
 
   -- an open request waits still, or was decided in this tick
@@ -261,7 +261,7 @@ module _ (f : ℕ) (said : Said) (s : ProxyData) (time : ℕ) where
   })
   open_is ws outs id before after opened (Opens none is asked) = absurd cc
   open_is ws outs id before after opened (Waits rs first is replied h) = NotYet rs is h
-  open_is ws outs id before after opened (Decides first is replied told) = Already is replied told
+  open_is ws outs id before after opened (Decides first is replied sends_answer) = Already is replied sends_answer
 
   reply_step : (ws : List Word) (outs : List Out) (u : ProxyData) (r : ℕ) (b : FastReplyBody) → 1 ≤ f → standing_of s b.id ≡ Some (Open [])
       → OpenStill ws outs b.id (standing_of u b.id)
@@ -270,7 +270,7 @@ module _ (f : ℕ) (said : Said) (s : ProxyData) (time : ℕ) where
       let y = reply_to said b.id r in
       subst (OwnStep ws (Replica r, messages.FastReply b) outs u b.id) (sym (ap (after_replica_reply f u b.id y) is))
       (noted_step ws outs u r b rs (decision f (with_note rs y)) least opened h refl)
-  reply_step ws outs u r b least opened (Already is replied told) =
+  reply_step ws outs u r b least opened (Already is replied sends_answer) =
       let id = b.id in
       let w : Word = (Replica r, messages.FastReply b) in
       subst (OwnStep ws w outs u id) (sym (ap (after_replica_reply f u id (reply_to said id r)) is)) (record {
@@ -278,7 +278,7 @@ module _ (f : ℕ) (said : Said) (s : ProxyData) (time : ℕ) where
         clock = refl;
         samples = refl;
         others = λ x other. refl;
-        own = Decides opened is (replied_more ws (w ∷ []) id replied) (has_left outs [] (answer_to_client id (said.answer id) paths.Fast) told);
+        own = Decides opened is (replied_more ws (w ∷ []) id replied) (has_left outs [] (answer_to_client id (said.answer id) paths.Fast) sends_answer);
         sends = tt;
         requests = no_request r (messages.FastReply b) [];
       })
@@ -290,7 +290,7 @@ module _ (f : ℕ) (said : Said) (s : ProxyData) (time : ℕ) where
   decided_is ws outs id before after a p decided (Stays is not_asked not_replied) = is ∙ decided
   decided_is ws outs id before after a p decided (Opens none is asked) = absurd cc
   decided_is ws outs id before after a p decided (Waits rs first is replied h) = absurd cc
-  decided_is ws outs id before after a p decided (Decides first is replied told) = absurd cc
+  decided_is ws outs id before after a p decided (Decides first is replied sends_answer) = absurd cc
 
   slow_step : (ws : List Word) (outs : List Out) (u : ProxyData) (r : ℕ) (b : SlowReplyBody) (a : Answer) (p : Path) (y : Reply)
       → IsProxyAfter f said s time ws u outs → standing_of s b.id ≡ Some (Decided a p)

@@ -77,8 +77,8 @@ stands_more f said ws w outs more id before after silent (Stays is not_asked not
 stands_more f said ws w outs more id before after silent (Opens none is asked) = Opens none is (asked_more ws (w ∷ []) id asked)
 stands_more f said ws w outs more id before after silent (Waits rs is now replied h) =
     Waits rs is now (replied_more ws (w ∷ []) id replied) (noted_more f said ws w id rs silent.not_replied h)
-stands_more f said ws w outs more id before after silent (Decides is now replied told) =
-    Decides is now (replied_more ws (w ∷ []) id replied) (has_left outs more (answer_to_client id (said.answer id) paths.Fast) told)
+stands_more f said ws w outs more id before after silent (Decides is now replied sends_answer) =
+    Decides is now (replied_more ws (w ∷ []) id replied) (has_left outs more (answer_to_client id (said.answer id) paths.Fast) sends_answer)
 
 -- ---- on which ids a message is silent
 

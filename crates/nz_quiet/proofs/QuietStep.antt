@@ -39,7 +39,7 @@ use Rattle.nz_quiet.specs.Requests.{own_proxy, HasRequest, IsDeadline}
 use Rattle.nz_quiet.specs.Folds.{outs_of, heard_by}
 use Rattle.nz_quiet.specs.Replicas.{IsQuietReplica, IsFreshBody, IsGoodReply, bodies_of, with_bodies, TickSends, SendsFast, SendsLogMod}
 use Rattle.nz_quiet.specs.Replicas.{HearingSends, SendsSlow, SendsReport}
-use Rattle.nz_quiet.specs.ProxyTicks.{said_of, stamped, Said, IsAskedIn, IsRepliedIn, Stands, Stays, Opens, Waits, Decides, MaySend, Stamps, Tells, IsBound}
+use Rattle.nz_quiet.specs.ProxyTicks.{said_of, stamped, Said, IsAskedIn, IsRepliedIn, Stands, Stays, Opens, Waits, Decides, MaySend, Stamps, Answers, IsBound}
 use Rattle.nz_quiet.specs.ClientTicks.{asking, new_attempt, IsAnsweredIn, IsOpenAfter, OpenBefore, OpenNow, IsNewRequest, Asks}
 use Rattle.nz_quiet.specs.Invariant.{standing_in, IsReleased, IsDecided, IsWaiting, HasPlace, Asked, Stamped, Entered, MayFly, IsQuietAt}
 use Rattle.nz_quiet.specs.Invariant.{FliesRequest, FliesTimed, FliesFast, FliesSlow, FliesAnswer, FliesLogMod, FliesReport}
@@ -81,25 +81,25 @@ module _ (f : ℕ) (said : Said) (heard : List (Actor × Message)) (outs : List 
   open_stays o q (Stays same unasked unheard) is none = same ∙ is
   open_stays o q (Opens before after asked) is none = absurd (let both = sym before ∙ is in cc)
   open_stays o q (Waits rs before after replied noted) is none = absurd (none replied)
-  open_stays o q (Decides before after replied told) is none = absurd (none replied)
+  open_stays o q (Decides before after replied sends_answer) is none = absurd (none replied)
 
   decided_stays : (o q : Option Standing) (a : Answer) (path : Path) → Stands f said heard outs id o q → o ≡ Some (Decided a path) → q ≡ Some (Decided a path)
   decided_stays o q a path (Stays same unasked unheard) is = same ∙ is
   decided_stays o q a path (Opens before after asked) is = absurd (let both = sym before ∙ is in cc)
   decided_stays o q a path (Waits rs before after replied noted) is = absurd (let both = sym before ∙ is in cc)
-  decided_stays o q a path (Decides before after replied told) is = absurd (let both = sym before ∙ is in cc)
+  decided_stays o q a path (Decides before after replied sends_answer) is = absurd (let both = sym before ∙ is in cc)
 
   unknown_stays : (o q : Option Standing) → Stands f said heard outs id o q → o ≡ None → (IsAskedIn heard id → ⊥) → q ≡ None
   unknown_stays o q (Stays same unasked unheard) is none = same ∙ is
   unknown_stays o q (Opens before after asked) is none = absurd (none asked)
   unknown_stays o q (Waits rs before after replied noted) is none = absurd (let both = sym before ∙ is in cc)
-  unknown_stays o q (Decides before after replied told) is none = absurd (let both = sym before ∙ is in cc)
+  unknown_stays o q (Decides before after replied sends_answer) is none = absurd (let both = sym before ∙ is in cc)
 
   unknown_opens : (o q : Option Standing) → Stands f said heard outs id o q → o ≡ None → IsAskedIn heard id → q ≡ Some (Open [])
   unknown_opens o q (Stays same unasked unheard) is asked = absurd (unasked asked)
   unknown_opens o q (Opens before after _) is asked = after
   unknown_opens o q (Waits rs before after replied noted) is asked = absurd (let both = sym before ∙ is in cc)
-  unknown_opens o q (Decides before after replied told) is asked = absurd (let both = sym before ∙ is in cc)
+  unknown_opens o q (Decides before after replied sends_answer) is asked = absurd (let both = sym before ∙ is in cc)
 
 -- ---- lists
 
@@ -282,8 +282,8 @@ module _ (g : Group) (t : ℕ) (L E : List Entry) (flight : List (Actor × Out))
         past = omega (arith, low);
         answer = (said_of g L).answer id;
         standing = done.standing;
-        told = λ _. out_flies (Proxy p) next
-            (Client id.client, messages.Answer (record { num = id.num; answer = (said_of g L).answer id; path = paths.Fast })) done.told;
+        on_its_way = λ _. out_flies (Proxy p) next
+            (Client id.client, messages.Answer (record { num = id.num; answer = (said_of g L).answer id; path = paths.Fast })) done.sends_answer;
       }
 
   decided_still : (e : Entry) → IsDecided g t flight J e → IsDecided g (suc t) next K e
@@ -297,7 +297,7 @@ module _ (g : Group) (t : ℕ) (L E : List Entry) (flight : List (Actor × Out))
             decided_stays g.f (said_of g L) (heard_by (Proxy (proxy_of id)) flight) (outs_of (Proxy (proxy_of id)) next) id (standing_in g J id)
             (standing_in g K id)
             done.answer paths.Fast (stands id) done.standing;
-        told = λ recent. absurd (omega (arith, past, recent));
+        on_its_way = λ recent. absurd (omega (arith, past, recent));
       }
 
   -- an entry of the log of the tick before is decided
@@ -389,7 +389,7 @@ module _ (g : Group) (t : ℕ) (L E : List Entry) (flight : List (Actor × Out))
         let client : e.key.client ≡ c = ap (λ (i : Id). i.client) is in
         let body : AnswerBody = record { num = e.key.num; answer = done.answer; path = paths.Fast } in
         absurd (none (answered c (own_proxy g e.key.client) num body
-        (subst (λ (x : ℕ). Has flight (Proxy (own_proxy g e.key.client), (Client x, messages.Answer body))) client (done.told recent))
+        (subst (λ (x : ℕ). Has flight (Proxy (own_proxy g e.key.client), (Client x, messages.Answer body))) client (done.on_its_way recent))
         (ap (λ (i : Id). i.num) is)))
   ]
 
@@ -524,7 +524,7 @@ module _ (g : Group) (t : ℕ) (L E : List Entry) (flight : List (Actor × Out))
   proxy_flies : (p : ℕ) (o : Out) → MaySend g.f (said_of g L) (state_after g (Proxy p) J) clock (heard_by (Proxy p) flight) o
       → MayFly g (suc t) log_now early_now K (Proxy p) o
   proxy_flies p _ (Stamps c b bound r among bounds member) = stamp_flies p c b bound r among bounds
-  proxy_flies p _ (Tells id standing replied) =
+  proxy_flies p _ (Answers id standing replied) =
       let good = fast_is g t L E J replied.replica (Proxy p) replied.body
       (flies (Replica replied.replica) (Proxy p, messages.FastReply replied.body)
       (of_heard (Proxy p) flight (Replica replied.replica) (messages.FastReply replied.body) replied.among)) in

@@ -37,7 +37,7 @@ use Rattle.nz_quiet.proofs.ClientsHear.{client_tick}
 use Rattle.nz_quiet.proofs.Elements.{all_of_each, is_mapped, of_filter}
 use Rattle.nz_quiet.proofs.Few.{few_entries}
 use Rattle.nz_quiet.proofs.InFlight.{of_heard}
-use Rattle.nz_quiet.proofs.NextTick.{told_of, IsReplicaAfter, IsNextTick}
+use Rattle.nz_quiet.proofs.NextTick.{seen_of, IsReplicaAfter, IsNextTick}
 use Rattle.nz_quiet.proofs.ProxiesFlight.{proxy_may_hear}
 use Rattle.nz_quiet.proofs.ProxiesHear.{proxy_tick, all_answered}
 use Rattle.nz_quiet.proofs.ReplicaHears.{hears}
@@ -216,18 +216,18 @@ module _ (g : Group) (t : ℕ) (L E : List Entry) (flight : List (Actor × Out))
 
   client_after : (c : ℕ) (s : State (Client c)) (outs : List Out) → c < length g.scripts
       → IsHeardTick g (Client c) clock flight (state_after g (Client c) J) s outs
-      → IsClientAfter g c (state_after g (Client c) J) (heard_by (Client c) flight) s outs (told_of g c J clock flight)
+      → IsClientAfter g c (state_after g (Client c) J) (heard_by (Client c) flight) s outs (seen_of g c J clock flight)
   client_after c s outs lt tick =
       let at_tick = now.ticks c lt in
       let turn = (all_fit g J w).states (Client c) in
       let done = client_tick g c (state_after g (Client c) J) clock (heard_by (Client c) flight) (omega (arith, at_tick, short))
       (are_young g t L E flight J now c lt)
       turn.sent (client_may_hear g t L E flight J now c lt) in
-      subst (λ (os : List Out). IsClientAfter g c (state_after g (Client c) J) (heard_by (Client c) flight) s os (told_of g c J clock flight)) (sym tick.sends)
+      subst (λ (os : List Out). IsClientAfter g c (state_after g (Client c) J) (heard_by (Client c) flight) s os (seen_of g c J clock flight)) (sym tick.sends)
       (subst (λ (v : State (Client c)). IsClientAfter g c (state_after g (Client c) J) (heard_by (Client c) flight) v
       ((tick_step g (Client c) (state_after g (Client c) J) clock).1
       ++ outs_heard g (Client c) (tick_step g (Client c) (state_after g (Client c) J) clock).0 (heard_by (Client c) flight))
-      (told_of g c J clock flight)) (sym tick.state) done)
+      (seen_of g c J clock flight)) (sym tick.state) done)
 
   -- ---- all of them
 

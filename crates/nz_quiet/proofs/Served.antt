@@ -32,12 +32,12 @@ use Rattle.nz_quiet.specs.Invariant.{HasPlace, Asked, Stamped, Entered, MayFly, 
 use Rattle.nz_quiet.proofs.ClientsFlight.{are_young}
 use Rattle.nz_quiet.proofs.Elements.{has_mapped, is_mapped}
 use Rattle.nz_quiet.proofs.InFlight.{of_heard, holds_id}
-use Rattle.nz_quiet.proofs.NextTick.{told_of}
+use Rattle.nz_quiet.proofs.NextTick.{seen_of}
 use Rattle.nz_quiet.proofs.QuietRuns.{steps_back, due_now, world_before, world_after, readable, step_is, stays_quiet}
 use Rattle.nz_quiet.proofs.QuietStep.{apart_from, timed_is}
 use Rattle.nz_quiet.proofs.QuietTicks.{own_ids}
 use Rattle.nz_quiet.proofs.Reading.{tick_events}
-use Rattle.nz_quiet.proofs.Told.{told_in, tick_told, told_has, told_is, timed_tick, told_tick}
+use Rattle.nz_quiet.proofs.Seen.{seen_in, tick_seen, seen_has, seen_is, timed_tick, seen_tick}
 
 -- ---- when an answer comes
 
@@ -153,14 +153,14 @@ module _ (s : Scenario) (quiet : IsQuiet s) (play : IsPlayable s) (t : ℕ) (few
 
   client_is : (c : ℕ) → c < length group.scripts
       → IsClientAfter group c (state_after group (Client c) older) (heard_by (Client c) flight) (state_after group (Client c) K)
-      (outs_of (Client c) (flight_of group now older)) (told_of group c older clock flight)
+      (outs_of (Client c) (flight_of group now older)) (seen_of group c older clock flight)
   client_is c lt = (step_is s quiet play t few now older order K tick steps run.log run.early run.quiet).clients c lt
 
   -- what a client sees in the tick
-  told_now : (c : ℕ) → c < length group.scripts → told_in group c now older ≡ told_of group c older clock flight
-  told_now c lt =
+  seen_now : (c : ℕ) → c < length group.scripts → seen_in group c now older ≡ seen_of group c older clock flight
+  seen_now c lt =
       let may = readable s quiet play t few now older order K tick steps run.log run.early run.quiet (Client c) in
-      told_tick group c clock flight now older may
+      seen_tick group c clock flight now older may
       (tick_events s (Client c) (suc t) flight now older K quiet play lt few tick (due_now s t older order quiet (steps_back group now older steps)))
 
   -- an event with the number of the tick
@@ -168,15 +168,15 @@ module _ (s : Scenario) (quiet : IsQuiet s) (play : IsPlayable s) (t : ℕ) (few
   in_tick e = (suc t, e)
 
   -- the events of the tick come last
-  events_are : timed_events group K ≡ timed_events group older ++ map in_tick (tick_told group now older)
+  events_are : timed_events group K ≡ timed_events group older ++ map in_tick (tick_seen group now older)
   events_are = ap (timed_events group) tick.whole ∙ timed_tick group (suc t) now older tick.here
 
-  told_last : (c : ℕ) (e : ClientEvent) → c < length group.scripts → Has (told_of group c older clock flight) e → Has (timed_events group K) (suc t, e)
-  told_last c e lt among =
+  seen_last : (c : ℕ) (e : ClientEvent) → c < length group.scripts → Has (seen_of group c older clock flight) e → Has (timed_events group K) (suc t, e)
+  seen_last c e lt among =
       subst (λ (es : List (ℕ × ClientEvent)). Has es (suc t, e)) (sym events_are)
-      (has_right (timed_events group older) (map in_tick (tick_told group now older)) (suc t, e)
-      (has_mapped in_tick (tick_told group now older) e
-      (told_has group c now older e (subst (λ (es : List ClientEvent). Has es e) (sym (told_now c lt)) among))))
+      (has_right (timed_events group older) (map in_tick (tick_seen group now older)) (suc t, e)
+      (has_mapped in_tick (tick_seen group now older) e
+      (seen_has group c now older e (subst (λ (es : List ClientEvent). Has es e) (sym (seen_now c lt)) among))))
 
   own : HaveOwnIds (keys_of (run.log ++ run.early))
   own = own_ids group t run.log run.early flight older run.quiet (world_before s quiet play t few now older order K tick steps run.log run.early run.quiet) few
@@ -193,8 +193,8 @@ module _ (s : Scenario) (quiet : IsQuiet s) (play : IsPlayable s) (t : ℕ) (few
             let when = accepted_when group t run.log run.early flight older run.quiet own c o.attempt o.member o.among done.proxy done.body
             done.among done.of_it in
             let seen : Has (timed_events group K) (suc t, Accepted id done.body.answer Fast) =
-            told_last c (Accepted id done.body.answer Fast) o.member
-            (subst (λ (n : ℕ). Has (told_of group c older clock flight) (Accepted (id_at c n) done.body.answer Fast)) o.own done.accepted) in
+            seen_last c (Accepted id done.body.answer Fast) o.member
+            (subst (λ (n : ℕ). Has (seen_of group c older clock flight) (Accepted (id_at c n) done.body.answer Fast)) o.own done.accepted) in
             inl (
               done.body.answer,
               elim when [
@@ -207,22 +207,22 @@ module _ (s : Scenario) (quiet : IsQuiet s) (play : IsPlayable s) (t : ℕ) (few
   served_on : (u : ℕ) (id : Id) → IsServed group t older u id → IsServed group (suc t) K u id
   served_on u id (inl done) =
       inl (subst (λ (es : List (ℕ × ClientEvent)). WasAccepted es u id) (sym events_are)
-      (accepted_later (timed_events group older) (map in_tick (tick_told group now older)) u id done))
+      (accepted_later (timed_events group older) (map in_tick (tick_seen group now older)) u id done))
   served_on u id (inr waits) = open_on u id waits
 
   -- a new request is open
-  new_on : (u : ℕ) (id : Id) (command : List ℕ) → Has {X = ℕ × ClientEvent} (map in_tick (tick_told group now older)) (u, Sent id command)
+  new_on : (u : ℕ) (id : Id) (command : List ℕ) → Has {X = ℕ × ClientEvent} (map in_tick (tick_seen group now older)) (u, Sent id command)
       → IsServed group (suc t) K u id
   new_on u id command among =
-      let it = is_mapped in_tick (tick_told group now older) (u, Sent id command) among in
+      let it = is_mapped in_tick (tick_seen group now older) (u, Sent id command) among in
       let at : u ≡ suc t = ap (λ (x : ℕ × ClientEvent). x.0) it.is in
       let what : Sent id command ≡ it.one = ap (λ (x : ℕ × ClientEvent). x.1) it.is in
       let w = world_after s quiet play t few now older order K tick steps run.log run.early run.quiet in
-      let by = told_is group now older (Sent id command) w (subst (λ (e : ClientEvent). Has (tick_told group now older) e) (sym what) it.among) in
+      let by = seen_is group now older (Sent id command) w (subst (λ (e : ClientEvent). Has (tick_seen group now older) e) (sym what) it.among) in
       let c = by.client in
       let after = client_is c by.member in
-      let told = subst (λ (es : List ClientEvent). Has es (Sent id command)) (told_now c by.member) by.among in
-      let fresh = after.sent id command told in
+      let seen = subst (λ (es : List ClientEvent). Has es (Sent id command)) (seen_now c by.member) by.among in
+      let fresh = after.sent id command seen in
       let client : c ≡ id.client = sym (ap (λ (i : Id). i.client) fresh.0) in
       let new = after.new id.num fresh.1 fresh.2 in
       let a = new_attempt group c id.num in
@@ -237,7 +237,7 @@ module _ (s : Scenario) (quiet : IsQuiet s) (play : IsPlayable s) (t : ℕ) (few
   all_on : ((u : ℕ) (id : Id) (command : List ℕ) → Has (timed_events group older) (u, Sent id command) → IsServed group t older u id)
       → (u : ℕ) (id : Id) (command : List ℕ) → Has (timed_events group K) (u, Sent id command) → IsServed group (suc t) K u id
   all_on before u id command among =
-      elim (has_split (timed_events group older) (map in_tick (tick_told group now older)) (u, Sent id command)
+      elim (has_split (timed_events group older) (map in_tick (tick_seen group now older)) (u, Sent id command)
       (subst (λ (es : List (ℕ × ClientEvent)). Has es (u, Sent id command)) events_are among)) [
         | inl old ↦ served_on u id (before u id command old)
         | inr new ↦ new_on u id command new

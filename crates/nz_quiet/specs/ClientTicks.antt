@@ -29,11 +29,11 @@ pub record IsAnsweredIn (heard : List Word) (num : ℕ) : Type 0 where
   pub of_it : body.num ≡ num
 
 -- What a client sees on hearing some messages, the oldest first.
-unfoldable pub told_heard : Group → ℕ → ClientData → List Word → List ClientEvent
-told_heard g c s [] = []
-told_heard g c s (w ∷ ws) =
+unfoldable pub seen_heard : Group → ℕ → ClientData → List Word → List ClientEvent
+seen_heard g c s [] = []
+seen_heard g c s (w ∷ ws) =
     let t = (message_step g (Client c) s w.0 w.1).0 in
-    (accepted_in c s t w.1 ++ sent_by c (script_of g c) s t) ++ told_heard g c t ws
+    (accepted_in c s t w.1 ++ sent_by c (script_of g c) s t) ++ seen_heard g c t ws
 
 -- ---- open requests
 
@@ -59,12 +59,12 @@ pub data IsOpenAfter (g : Group) (c : ℕ) (s : ClientData) (heard : List Word) 
   OpenNow : (num : ℕ) → s.sent < num → num ≤ t.sent → Has outs (asking g c num) → IsOpenAfter g c s heard t outs (new_attempt g c num)
 
 -- A request was answered in the tick, and the client accepted the answer.
-pub record IsAcceptedIn (c : ℕ) (heard : List Word) (told : List ClientEvent) (num : ℕ) : Type 0 where
+pub record IsAcceptedIn (c : ℕ) (heard : List Word) (seen : List ClientEvent) (num : ℕ) : Type 0 where
   pub proxy : ℕ
   pub body : AnswerBody
   pub among : Has heard (Proxy proxy, messages.Answer body)
   pub of_it : body.num ≡ num
-  pub accepted : Has told (Accepted (id_at c num) body.answer paths.Fast)
+  pub accepted : Has seen (Accepted (id_at c num) body.answer paths.Fast)
 
 -- What a client sends in a tick: requests of its script that are new and open.
 pub data IsNewRequest (g : Group) (c : ℕ) (s t : ClientData) : Out → Type 0 where
@@ -72,15 +72,15 @@ pub data IsNewRequest (g : Group) (c : ℕ) (s t : ClientData) : Out → Type 0 
 
 -- What a client sees of new requests: those after the first number, up to the second.
 abbrev pub AreSentWithin : ℕ → ℕ → ℕ → List ClientEvent → Type 0
-AreSentWithin c low high told = (id : Id) (command : List ℕ) → Has told (Sent id command) → (id ≡ id_at c id.num) × (low < id.num) × (id.num ≤ high)
+AreSentWithin c low high seen = (id : Id) (command : List ℕ) → Has seen (Sent id command) → (id ≡ id_at c id.num) × (low < id.num) × (id.num ≤ high)
 
 -- A client after its clock and some answers of a tick, by its state before the tick.
-pub record IsClientAfter (g : Group) (c : ℕ) (s : ClientData) (heard : List Word) (t : ClientData) (outs : List Out) (told : List ClientEvent) : Type 0 where
+pub record IsClientAfter (g : Group) (c : ℕ) (s : ClientData) (heard : List Word) (t : ClientData) (outs : List Out) (seen : List ClientEvent) : Type 0 where
   pub ticks : t.ticks ≡ s.ticks + 1
   pub more : s.sent ≤ t.sent
   pub few : t.sent ≤ length (script_of g c)
   pub open_after : AllByRecursion (IsOpenAfter g c s heard t outs) t.attempts
-  pub each : (a : Attempt) → Has s.attempts a → Has t.attempts (one_older a) ⊎ IsAcceptedIn c heard told a.num
+  pub each : (a : Attempt) → Has s.attempts a → Has t.attempts (one_older a) ⊎ IsAcceptedIn c heard seen a.num
   pub new : (num : ℕ) → s.sent < num → num ≤ t.sent → Has t.attempts (new_attempt g c num)
   pub sends : AllByRecursion (IsNewRequest g c s t) outs
-  pub sent : AreSentWithin c s.sent t.sent told
+  pub sent : AreSentWithin c s.sent t.sent seen

@@ -56,7 +56,7 @@ pub record IsDecided (g : Group) (t : ℕ) (flight : List (Actor × Out)) (J : L
   pub past : e.key.deadline + UNITS_PER_TICK ≤ UNITS_PER_TICK * t
   pub answer : Answer
   pub standing : standing_in g J (id_of e.key) ≡ Some (Decided answer paths.Fast)
-  pub told : UNITS_PER_TICK * t < e.key.deadline + 2 * UNITS_PER_TICK
+  pub on_its_way : UNITS_PER_TICK * t < e.key.deadline + 2 * UNITS_PER_TICK
       → Has flight (Proxy (own_proxy g e.key.client), (Client e.key.client, messages.Answer (record { num = e.key.num; answer = answer; path = paths.Fast })))
 
 -- An entry that waits in early.

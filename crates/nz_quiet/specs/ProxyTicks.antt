@@ -105,7 +105,8 @@ stamped clock bound c b r =
 pub data MaySend (f : ℕ) (said : Said) (s : ProxyData) (clock : ℕ) (heard : List Word) : Out → Type 0 where
   Stamps : (c : ℕ) (b : RequestBody) (bound r : ℕ) → Has heard (Client c, messages.Request b) → IsBound bound → r < replica_count f
       → MaySend f said s clock heard (stamped clock bound c b r)
-  Tells : (id : Id) → standing_of s id ≡ Some (Open []) → IsRepliedIn heard id → MaySend f said s clock heard (answer_to_client id (said.answer id) paths.Fast)
+  Answers : (id : Id) → standing_of s id ≡ Some (Open []) → IsRepliedIn heard id
+      → MaySend f said s clock heard (answer_to_client id (said.answer id) paths.Fast)
 
 -- The request was stamped with one bound, for each replica.
 pub record IsStampedIn (f clock : ℕ) (outs : List Out) (c : ℕ) (b : RequestBody) : Type 0 where
@@ -126,4 +127,4 @@ pub record IsProxyAfter (f : ℕ) (said : Said) (s : ProxyData) (clock : ℕ) (h
 -- The request is decided fast, and its client is answered.
 pub record IsAnsweredFast (said : Said) (id : Id) (t : ProxyData) (outs : List Out) : Type 0 where
   pub standing : standing_of t id ≡ Some (Decided (said.answer id) paths.Fast)
-  pub told : Has outs (answer_to_client id (said.answer id) paths.Fast)
+  pub sends_answer : Has outs (answer_to_client id (said.answer id) paths.Fast)

@@ -14,7 +14,7 @@ ghost use Rattle.nz_machine.specs.runs.World.{state_after};
 ghost use Rattle.nz_quiet.specs.Folds.{heard_by, state_heard, outs_heard};
 ghost use Rattle.nz_quiet.specs.Words.{Word};
 ghost use Rattle.nz_quiet.specs.Invariant.{IsQuietAt};
-ghost use Rattle.nz_quiet.specs.ClientTicks.{AreYoung, MayAnswer, IsClientAfter, told_heard};
+ghost use Rattle.nz_quiet.specs.ClientTicks.{AreYoung, MayAnswer, IsClientAfter, seen_heard};
 
 /// In a tick a client none of whose requests has waited longer than 13 ticks repeats none: exactly the open requests that
 /// are answered leave, each with its acceptance, and the new ones are open and sent.
@@ -22,7 +22,7 @@ pub fn clients_do_their_part()
     ensures { (g : Group) (c : ℕ) (s : ClientData) (clock : ℕ) (ws : List Word) → s.ticks < last_tick → AreYoung s → s.sent ≤ length (script_of g c)
         → AllByRecursion (MayAnswer s) ws → let t = tick_step g (Client c) s clock in
         IsClientAfter g c s ws (state_heard g (Client c) t.0 ws) (t.1 ++ outs_heard g (Client c) t.0 ws)
-        (sent_by c (script_of g c) s t.0 ++ told_heard g c t.0 ws) }
+        (sent_by c (script_of g c) s t.0 ++ seen_heard g c t.0 ws) }
 {}
 
 /// What is in flight to a client of a quiet run is what it may hear, and none of its requests has waited longer than 13

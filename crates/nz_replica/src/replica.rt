@@ -23,7 +23,7 @@ use nz_rejoin::{
     on_rejoin_ask, on_rejoin_tell, on_state_ask, on_state_tell, on_vector_ask, on_vector_tell,
     rejoin_timer, restart,
 };
-use nz_sync::{on_fetch, on_fetch_reply, on_log_mod, on_sync_report, tell_others};
+use nz_sync::{on_fetch, on_fetch_reply, on_log_mod, on_sync_report, send_log_mods};
 use nz_view::{change_timer, on_alarm, on_start_view, on_view_ask, on_view_change, quiet_timer};
 use std::alloc::Global;
 use std::marker::Model;
@@ -188,7 +188,7 @@ fn mode_timer(state: &mut ReplicaState, sends: &mut Outbox) -> Result<(), NoMemo
 {
     if state.is_normal() {
         if state.leads() {
-            return tell_others(state, sends);
+            return send_log_mods(state, sends);
         }
         return quiet_timer(state, sends);
     }

@@ -4,7 +4,7 @@
 //! cells, for several. A *played* run is its journal and its replicas after the last record.
 //!
 //! On one thread a run is played tick by tick (`Playing`): between two ticks its replicas can be looked at, and
-//! what the last tick told can be noted. `run_alone` plays all ticks and gives the played run.
+//! what the last tick showed can be noted. `run_alone` plays all ticks and gives the played run.
 //!
 //! With several workers, one of them plays alone, item by item, until a tick has much to do, and only then
 //! are the others started. They stay over all further ticks. A worker takes a batch under the network's lock,

@@ -14,7 +14,7 @@ use Rattle.nz_store.specs.declared.command.Command.{Command}
 use Rattle.nz_store.specs.declared.command.Command.TheVariants as command
 use Rattle.nz_store.specs.Grammar.{spelling}
 use Rattle.nz_store.specs.Reading.{is_key_text, is_value_text, is_choice_text, has_spelling, command_of}
-use Rattle.nz_store.proofs.Texts.{tells_valid}
+use Rattle.nz_store.proofs.Texts.{validity_is}
 use Rattle.nz_store.proofs.Spellings.{spells_from_reading}
 use Rattle.nz_script.specs.declared.line_forms.Place.TheVariants as place
 use Rattle.nz_script.specs.declared.line_forms.Verb.TheVariants as verb
@@ -132,7 +132,7 @@ command_lines_taken : (v : ℕ) (g : Group) (t : ℕ) (ks : List Skew) (ss : Lis
 command_lines_taken v g t ks ss b w r bytes None e some room = absurd (false≢true some)
 command_lines_taken v g t ks ss b w r bytes (Some c) e some room =
     let spelled = spells_from_reading bytes c e in
-    let h = command_taken v g t ks ss b w r c ((tells_valid c).1 spelled.valid) room in
+    let h = command_taken v g t ks ss b w r c ((validity_is c).1 spelled.valid) room in
     record {
       taken = h.taken;
       after = h.after ∙ ap (λ (x : List ℕ). open_block v g t ks ss (b ++ (record { wait = w; command = x }) ∷ []) 0 (r + 1)) (sym spelled.whole);

@@ -12,7 +12,7 @@ use Rattle.nz_base.specs.declared.scenario.Fault.{Fault}
 use Rattle.nz_store.specs.declared.command.Command.{Command}
 use Rattle.nz_store.specs.Grammar.{IsValidCommand, is_graphic}
 use Rattle.nz_store.specs.Reading.{is_text, is_key_text, is_value_text, has_spelling}
-use Rattle.nz_store.proofs.Texts.{tells_valid}
+use Rattle.nz_store.proofs.Texts.{validity_is}
 use Rattle.nz_script.specs.Draws.{next, draws_after, drawn_key, drawn_value, command_for, request_for}
 use Rattle.nz_script.specs.Draws.{requests_for, script_for, scripts_for, fault_for, faults_for}
 use Rattle.nz_script.proofs.Numerals.{own, all-digits}
@@ -85,7 +85,7 @@ choice false x y h k = k
 
 pub command_for_is_valid : (a b i : ℕ) → b < 2 ^ 64 → i < 2 ^ 64 → IsValidCommand (command_for a b i)
 command_for_is_valid a b i sb si =
-    (tells_valid (command_for a b i)).0 (
+    (validity_is (command_for a b i)).0 (
     choice (a == 0) _ _ (and_from _ _ (key_text b sb) (value_text i si)) (
     choice (a == 1) _ _ (key_text b sb) (
     choice (a == 2) _ _ (key_text b sb) (and_from _ _ (and_from _ _ (key_text b sb) refl) (value_text i si)))))

@@ -4,7 +4,7 @@ use Rattle.std.specs.Prelude.{◌&&◌}
 use Rattle.std.proofs.lemmas.Bool.{false≢true, and_from, and_parts}
 use Rattle.nz_store.specs.Grammar.{IsValidCommand}
 use Rattle.nz_store.specs.Reading.{is_key_text, is_value_text, is_choice_text, has_spelling}
-use Rattle.nz_store.proofs.Texts.{tells_valid}
+use Rattle.nz_store.proofs.Texts.{validity_is}
 use Rattle.nz_script.specs.declared.faults.Kind.TheVariants as kind
 use Rattle.nz_script.specs.declared.line_forms.Ask.{Ask}
 use Rattle.nz_script.specs.declared.line_forms.Ask.TheVariants.{Put, Get, Del, Cas}
@@ -64,7 +64,7 @@ spelled Cas (k ∷ old ∷ new ∷ more) e =
 
 -- a command whose key and values are in range can be spelled
 pub command_is_valid : (ask : Ask) (words : List Word) → all_within (ask_shape_of ask).forms words ≡ true → IsValidCommand (command_asked ask words)
-command_is_valid ask words e = (tells_valid (command_asked ask words)).0 (spelled ask words e)
+command_is_valid ask words e = (validity_is (command_asked ask words)).0 (spelled ask words e)
 
 last_passed : (k a b c : Bool)
     → cond (not k) (Some kind.Syntax) (cond (not a) (Some kind.Order) (cond (not b) (Some kind.Name) (cond (not c) (Some kind.Limit) None))) ≡ None

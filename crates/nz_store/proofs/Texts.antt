@@ -62,15 +62,15 @@ test_from_choice : (value : Option (List ℕ)) → IsOptionalValue value → is_
 test_from_choice None h = refl
 test_from_choice (Some value) h = test_from_value value h
 
--- the test of a command tells the commands that have a spelling
-pub tells_valid : (c : Command) → IsTrue (has_spelling c) ↔ IsValidCommand c
-tells_valid (Put key value) = (
+-- the test of a command holds exactly for those that have a spelling
+pub validity_is : (c : Command) → IsTrue (has_spelling c) ↔ IsValidCommand c
+validity_is (Put key value) = (
   (λ e. let p = and_parts (is_key_text key) (is_value_text value) e in (key_from_test key p.0, value_from_test value p.1)),
   (λ h. and_from (is_key_text key) (is_value_text value) (test_from_key key h.0) (test_from_value value h.1)),
 )
-tells_valid (Get key) = (key_from_test key, test_from_key key)
-tells_valid (Del key) = (key_from_test key, test_from_key key)
-tells_valid (Cas key old new) = (
+validity_is (Get key) = (key_from_test key, test_from_key key)
+validity_is (Del key) = (key_from_test key, test_from_key key)
+validity_is (Cas key old new) = (
   (λ e.
       let p = and_parts (is_key_text key && is_choice_text old) (is_choice_text new) e in
       let q = and_parts (is_key_text key) (is_choice_text old) p.0 in

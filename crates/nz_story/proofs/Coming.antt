@@ -100,8 +100,8 @@ left_not_below keys i key k r lt at there =
     not_below (drop (i + 1) keys) key k (subst AreRising e (rising_left keys i r)) (subst (λ (ks : List Key). has_key ks k ≡ true) e there)
 
 -- the key is among those of which none is below it only if it is the first
-pub first_tells : (x : Key) (keys : List Key) (key : Key) → AreRising (x ∷ keys) → key_below x key ≡ false → key_eq key x ≡ has_key (x ∷ keys) key
-first_tells x keys key r not = by_rest (has_key keys key) refl
+pub is_first_among : (x : Key) (keys : List Key) (key : Key) → AreRising (x ∷ keys) → key_below x key ≡ false → key_eq key x ≡ has_key (x ∷ keys) key
+is_first_among x keys key r not = by_rest (has_key keys key) refl
   where
     by_rest : (b : Bool) → has_key keys key ≡ b → key_eq key x ≡ has_key (x ∷ keys) key
     by_rest true e = true_and_false (key_below x key) (r.0 key e) not

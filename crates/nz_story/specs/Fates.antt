@@ -1,4 +1,4 @@
--- What becomes of a parcel that is sent, and the line that tells it.
+-- What becomes of a parcel that is sent, and the line that shows it.
 use Rattle.std.specs.Prelude.{ℕ, List, [], ◌∷◌, ◌++◌, Option, Some, None, codes}
 use Rattle.std.specs.Fmt.{decimal}
 use Rattle.std.specs.List.{flat_map}

@@ -118,7 +118,7 @@ rejoin_fields nonce view vector = nonce_field nonce ++ (view_field view ++ vecto
 abbrev pub request_fields : RequestBody → List ℕ
 request_fields b = number_field (codes "num") b.num ++ command_field b.command
 
--- The command of a timed request is told where its client sends it.
+-- The command of a timed request is shown where its client sends it.
 abbrev pub timed_fields : TimedBody → List ℕ
 timed_fields b = number_field (codes "sent") b.sent ++ (number_field (codes "deadline") b.deadline ++ id_field b.id)
 
@@ -195,7 +195,7 @@ fields_of (messages.RejoinTell b) = rejoin_fields b.nonce b.view b.vector
 fields_of (messages.StateAsk b) = rejoin_fields b.nonce b.view b.vector
 fields_of (messages.StateTell b) = state_tell_fields b
 
--- What was decoded, after a colon. Of a frame that is refused nothing is told.
+-- What was decoded, after a colon. Of a frame that is refused nothing is shown.
 abbrev pub contents_text : Result Envelope DecodeRefusal → List ℕ
 contents_text (Err refusal) = []
 contents_text (Ok e) = codes ":" ++ fields_of e.message

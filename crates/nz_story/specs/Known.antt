@@ -5,7 +5,7 @@ use Rattle.nz_base.specs.declared.key.Key.{Key}
 use Rattle.nz_machine.specs.rules.State.{ReplicaData}
 use Rattle.nz_story.specs.States.{state_text, came, came_text, is_same}
 
--- What is told of a state but for its lists, and the keys of these.
+-- What is shown of a state but for its lists, and the keys of these.
 pub record Known : Type 0 where
   pub state : List ℕ
   pub log : List Key

@@ -1,4 +1,4 @@
--- What is told of a replica's state, and of what became of it.
+-- What is shown of a replica's state, and of what became of it.
 use Rattle.std.specs.Prelude.{ℕ, List, [], ◌∷◌, ◌++◌, length, filter, not, ◌&&◌, Bool, if◌then◌else◌, codes}
 use Rattle.std.specs.Fmt.{decimal}
 use Rattle.std.specs.List.{flat_map}
@@ -17,7 +17,7 @@ use Rattle.nz_machine.specs.rules.State.{Group, ReplicaData}
 use Rattle.nz_machine.specs.runs.World.{state_after}
 use Rattle.nz_story.specs.Fields.{number_field, view_field, vector_field, key_word}
 
--- ---- what is told of a state beside its lists
+-- ---- what is shown of a state beside its lists
 
 -- How far a rejoin is.
 abbrev pub phase_text : Phase → Rejoin → List ℕ
@@ -31,14 +31,14 @@ points_text s =
     view_field s.view ++ (vector_field s.vector
     ++ (number_field (codes "synced") s.log.synced ++ number_field (codes "commit") s.commit))
 
--- The same after its mode. Of one that is down nothing else is told.
+-- The same after its mode. Of one that is down nothing else is shown.
 abbrev pub state_in : Status → ReplicaData → List ℕ
 state_in Normal s = codes "normal" ++ points_text s
-state_in ViewChange s = codes "view-change collected " ++ (decimal (length s.changes) ++ points_text s)
+state_in ViewChange s = codes "view-change collected " ++ (decimal (length s.reports) ++ points_text s)
 state_in Rejoining s = codes "rejoining " ++ (phase_text s.rejoin.phase s.rejoin ++ points_text s)
 state_in Down s = codes "down"
 
--- What is told of a state, but for its lists.
+-- What is shown of a state, but for its lists.
 abbrev pub state_text : ReplicaData → List ℕ
 state_text s = state_in s.status s
 
@@ -66,7 +66,7 @@ lists_text before after =
 
 -- ---- the line
 
--- Whether there is nothing to tell: the same is told of both states, and no key came.
+-- Whether there is nothing to show: the same is shown of both states, and no key came.
 abbrev pub is_same : List ℕ → List ℕ → List ℕ → Bool
 is_same before after lists = bytes_eq before after && bytes_eq lists []
 

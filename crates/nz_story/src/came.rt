@@ -67,7 +67,7 @@ pub fn came_in_order(alloc: Global, before: &[Key], after: &[Key]) -> Result<Vec
 
 /// Where the list has the key.
 fn place_of(keys: &[Key], key: &Key) -> Option<usize>
-    ensures tells { is_some result ≡ has_key keys.now key.now }
+    ensures is_there { is_some result ≡ has_key keys.now key.now }
     ensures within { IfSome result (λ place. place < length keys.now) }
 {
     for place in 0..keys.len() {
@@ -80,7 +80,7 @@ fn place_of(keys: &[Key], key: &Key) -> Option<usize>
 
 /// The same. It is looked for at this place first.
 fn place_near(keys: &[Key], place: usize, key: &Key) -> Option<usize>
-    ensures tells { is_some result ≡ has_key keys.now key.now }
+    ensures is_there { is_some result ≡ has_key keys.now key.now }
     ensures within { IfSome result (λ place. place < length keys.now) }
 {
     if place < keys.len() && *key == keys[place] {

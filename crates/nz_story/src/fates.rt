@@ -1,4 +1,4 @@
-//! What becomes of each parcel of a run, and the lines that tell it.
+//! What becomes of each parcel of a run, and the lines that show it.
 
 ghost use Rattle.std.specs.Prelude.{◌≡◌, ◌∷◌, ◌++◌, [], List, length, IfOk, OnOk, OnErr};
 ghost use Rattle.std.specs.List.{flat_map};

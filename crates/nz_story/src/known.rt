@@ -1,4 +1,4 @@
-//! What is known of a replica after a record, and the line that tells what a record changed.
+//! What is known of a replica after a record, and the line that shows what a record changed.
 
 ghost use Rattle.std.specs.Prelude.{◌≡◌, ◌++◌, IfOk, IsTrue, OnOk, codes};
 ghost use Rattle.nz_base.specs.Log.{keys_of, AreRising};
@@ -20,12 +20,12 @@ use std::mem::swap;
 /// What is known of a replica.
 #[derive(Drop)]
 pub struct Known {
-    /// What is told of its state, but for its lists.
+    /// What is shown of its state, but for its lists.
     state: Vec<u8>,
     log: Vec<Key>,
     early: Vec<Key>,
     late: Vec<Key>,
-    /// Memory for what is told of the next state.
+    /// Memory for what is shown of the next state.
     spare: Vec<u8>,
 }
 
@@ -163,7 +163,7 @@ fn put_late(
     Ok(())
 }
 
-/// Writes the line, if there is something to tell.
+/// Writes the line, if there is something to show.
 fn put_line(out: &mut Vec<u8>, before: &[u8], after: &[u8], lists: &[u8]) -> Result<(), NoMemory>
     ensures { OnOk result (out.new.items ≡ out.old.items ++ line_of before.now after.now lists.now) }
 {

@@ -70,7 +70,7 @@ fn blocks(fault: Fault, tick: u32, parcel: &Parcel) -> bool
     }
 }
 
-/// Whether the fault line strikes a parcel that is sent in a tick, of which it is told whether the line names it, after
+/// Whether the fault line strikes a parcel that is sent in a tick, of which it is known whether the line names it, after
 /// this many that the line names.
 fn strikes(fault: Fault, tick: u32, parcel: &Parcel, named: bool, count: u64) -> bool
     requires { named ≡ specs.names fault parcel.now }
@@ -96,7 +96,7 @@ fn count_one(named: bool, count: &mut u64) -> Result<(), NoMemory>
     }
 }
 
-/// What the fault line makes of the deliveries of a parcel that is sent in a tick, of which it is told whether the line
+/// What the fault line makes of the deliveries of a parcel that is sent in a tick, of which it is known whether the line
 /// names it, after this many that the line names.
 fn strike_if(
     fault: Fault,

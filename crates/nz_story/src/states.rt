@@ -1,4 +1,4 @@
-//! What is told of a replica's state beside its lists, written after what is there.
+//! What is shown of a replica's state beside its lists, written after what is there.
 
 ghost use Rattle.std.specs.Prelude.{◌≡◌, ◌++◌, OnOk};
 ghost use Rattle.std.specs.Fmt.{decimal};
@@ -35,7 +35,7 @@ fn put_points(out: &mut Vec<u8>, state: &ReplicaState) -> Result<(), NoMemory>
     put_number_field(out, b"commit", u64::from(state.commit()))
 }
 
-/// Writes what is told of the state, but for its lists.
+/// Writes what is shown of the state, but for its lists.
 pub fn put_state(out: &mut Vec<u8>, state: &ReplicaState) -> Result<(), NoMemory>
     ensures { OnOk result (out.new.items ≡ out.old.items ++ state_text state.now.state) }
 {
@@ -46,7 +46,7 @@ pub fn put_state(out: &mut Vec<u8>, state: &ReplicaState) -> Result<(), NoMemory
         }
         Status::ViewChange => {
             put(out, b"view-change collected ")?;
-            put_number(out, state.reports() as u64)?;
+            put_number(out, state.report_count() as u64)?;
             put_points(out, state)
         }
         Status::Rejoining => {

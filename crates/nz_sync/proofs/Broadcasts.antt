@@ -1,4 +1,4 @@
--- What the leader tells and gives, one key, one replica and one entry after the other.
+-- What the leader sends, one key, one replica and one entry after the other.
 use Rattle.std.proofs.Common.{◌≡◌, ℕ, zero, suc, ◌+◌, ◌-◌, ◌≤◌, Bool, true, false, not, ◌==◌, min, List, [], ◌∷◌, ◌++◌, length, map}
 use Rattle.std.proofs.Common.{take, drop, get_or, Some, refl, sym, ap, ◌∙◌, inl, inr, arith, add-one, append_assoc, length-drop}
 use Rattle.std.specs.Prelude.{slice_get}
@@ -20,9 +20,9 @@ use Rattle.nz_machine.proofs.lists.ListParts.{take_next}
 
 -- ---- items from a place on
 
-next_told : {X : Type 0} (xs : List X) (start place : ℕ) (x : X) → start ≤ place → slice_get xs place ≡ Some x
+next_taken : {X : Type 0} (xs : List X) (start place : ℕ) (x : X) → start ≤ place → slice_get xs place ≡ Some x
     → take (place + 1 - start) (drop start xs) ≡ take (place - start) (drop start xs) ++ x ∷ []
-next_told xs start place x low at =
+next_taken xs start place x low at =
     let n = place - start in
     let within = slice_get_within xs place x at in
     let long = length-drop start xs in
@@ -35,7 +35,7 @@ next_told xs start place x low at =
 pub next_key : (es : List Entry) (start place : ℕ) (e : Entry) → start ≤ place → slice_get es place ≡ Some e
     → take (place + 1 - start) (drop start (keys_of es)) ≡ take (place - start) (drop start (keys_of es)) ++ e.key ∷ []
 next_key es start place e low at =
-    next_told (keys_of es) start place e.key low (slice_get-map (λ (e : Entry). e.key) es place ∙ ap (option_map (λ (e : Entry). e.key)) at)
+    next_taken (keys_of es) start place e.key low (slice_get-map (λ (e : Entry). e.key) es place ∙ ap (option_map (λ (e : Entry). e.key)) at)
 
 pub take_past : {X : Type 0} (n : ℕ) (xs : List X) → length xs ≤ n → take n xs ≡ xs
 take_past zero [] past = refl
@@ -43,9 +43,9 @@ take_past (suc n) [] past = refl
 take_past zero (x ∷ xs) past = absurd (omega arith)
 take_past (suc n) (x ∷ xs) past = ap (λ ys. x ∷ ys) (take_past n xs (omega (arith, past)))
 
-pub all_told : (ks : List Key) (start place stop : ℕ) → stop ≡ min (length ks) (start + 64) → start ≤ place → stop ≤ place → (start ≤ stop → place ≤ stop)
+pub all_taken : (ks : List Key) (start place stop : ℕ) → stop ≡ min (length ks) (start + 64) → start ≤ place → stop ≤ place → (start ≤ stop → place ≤ stop)
     → take (place - start) (drop start ks) ≡ take 64 (drop start ks)
-all_told ks start place stop is low past within =
+all_taken ks start place stop is low past within =
     let long = length-drop start ks in
     elim (cases_lt 64 (length (drop start ks))) [
       | inl more ↦
@@ -69,22 +69,22 @@ other_next me n other = others_next me n ∙ (rw other refl)
 self_next : (me n : ℕ) → (n == me) ≡ true → others_below me (n + 1) ≡ others_below me n
 self_next me n is = others_next me n ∙ (rw is (append-nil (others_below me n)))
 
-pub self_told : (me n : ℕ) (tell : ℕ → Out) (before sends after : List Parcel) → (n == me) ≡ true
-    → sends ≡ before ++ map (parcel (Replica me)) (map tell (others_below me n))
-    → after ≡ sends → after ≡ before ++ map (parcel (Replica me)) (map tell (others_below me (n + 1)))
-self_told me n tell before sends after is told same =
-    same ∙ told ∙ ap (λ (rs : List ℕ). before ++ map (parcel (Replica me)) (map tell rs)) (sym (self_next me n is))
+pub self_left_out : (me n : ℕ) (log_mod : ℕ → Out) (before sends after : List Parcel) → (n == me) ≡ true
+    → sends ≡ before ++ map (parcel (Replica me)) (map log_mod (others_below me n))
+    → after ≡ sends → after ≡ before ++ map (parcel (Replica me)) (map log_mod (others_below me (n + 1)))
+self_left_out me n log_mod before sends after is sent same =
+    same ∙ sent ∙ ap (λ (rs : List ℕ). before ++ map (parcel (Replica me)) (map log_mod rs)) (sym (self_next me n is))
 
-pub other_told : (me n : ℕ) (tell : ℕ → Out) (before sends after : List Parcel) → (n == me) ≡ false
-    → sends ≡ before ++ map (parcel (Replica me)) (map tell (others_below me n))
-    → after ≡ sends ++ map (parcel (Replica me)) (tell n ∷ []) → after ≡ before ++ map (parcel (Replica me)) (map tell (others_below me (n + 1)))
-other_told me n tell before sends after other is next =
-    let first = map tell (others_below me n) in
-    let all : map tell (others_below me (n + 1)) ≡ first ++ tell n ∷ [] =
-    ap (map tell) (other_next me n other) ∙ map-append tell (others_below me n) (n ∷ []) in
-    next ∙ ap (λ (xs : List Parcel). xs ++ map (parcel (Replica me)) (tell n ∷ [])) is
-    ∙ append_assoc before (map (parcel (Replica me)) first) (map (parcel (Replica me)) (tell n ∷ []))
-    ∙ ap (λ (xs : List Parcel). before ++ xs) (sym (map-append (parcel (Replica me)) first (tell n ∷ [])))
+pub other_sent : (me n : ℕ) (log_mod : ℕ → Out) (before sends after : List Parcel) → (n == me) ≡ false
+    → sends ≡ before ++ map (parcel (Replica me)) (map log_mod (others_below me n))
+    → after ≡ sends ++ map (parcel (Replica me)) (log_mod n ∷ []) → after ≡ before ++ map (parcel (Replica me)) (map log_mod (others_below me (n + 1)))
+other_sent me n log_mod before sends after other is next =
+    let first = map log_mod (others_below me n) in
+    let all : map log_mod (others_below me (n + 1)) ≡ first ++ log_mod n ∷ [] =
+    ap (map log_mod) (other_next me n other) ∙ map-append log_mod (others_below me n) (n ∷ []) in
+    next ∙ ap (λ (xs : List Parcel). xs ++ map (parcel (Replica me)) (log_mod n ∷ [])) is
+    ∙ append_assoc before (map (parcel (Replica me)) first) (map (parcel (Replica me)) (log_mod n ∷ []))
+    ∙ ap (λ (xs : List Parcel). before ++ xs) (sym (map-append (parcel (Replica me)) first (log_mod n ∷ [])))
     ∙ ap (λ (xs : List Out). before ++ map (parcel (Replica me)) xs) (sym all)
 
 -- ---- the entries that are asked for

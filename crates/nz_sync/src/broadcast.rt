@@ -135,7 +135,7 @@ fn send_to_others(
 
 /// At a tick the leader in normal operation sends each of the others what its log has. Mostly all of them have reported
 /// the same place, so that one body serves them.
-pub fn tell_others(state: &ReplicaState, sends: &mut Outbox) -> Result<(), NoMemory>
+pub fn send_log_mods(state: &ReplicaState, sends: &mut Outbox) -> Result<(), NoMemory>
     ensures { OnOk result (sends.new ≡ sends.old ++ map (parcel (actors.Replica state.now.me)) (log_mods_to_others state.now.f state.now.me state.now.state)) }
 {
     // f is at least 1, so there is another replica.

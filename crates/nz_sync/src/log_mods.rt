@@ -19,7 +19,7 @@ use nz_base::{Actor, IdList, NoMemory};
 use nz_machine::{Outbox, ReplicaState};
 use nz_msg::{FetchBody, LogModBody, Message, SyncReportBody};
 
-/// Tells the leader how much of the log agrees with its own.
+/// Reports to the leader how much of the log agrees with its own.
 fn send_sync_report(state: &ReplicaState, leader: u8, sends: &mut Outbox) -> Result<(), NoMemory>
     requires { leader ≤ MAX_REPLICA }
     ensures { OnOk result (sends.new ≡ sends.old ++ map (parcel (actors.Replica state.now.me)) (sync_report_to leader state.now.state ∷ [])) }

@@ -9,7 +9,7 @@ use Rattle.nz_base.specs.declared.key.Id.{Id}
 use Rattle.nz_store.specs.declared.command.Command.{Command}
 use Rattle.nz_store.specs.Reading.{command_of}
 use Rattle.nz_store.proofs.Spellings.{spells_from_reading}
-use Rattle.nz_store.proofs.Texts.{tells_valid}
+use Rattle.nz_store.proofs.Texts.{validity_is}
 use Rattle.nz_script.specs.Bytes.{lines_in, tail_in}
 use Rattle.nz_machine.specs.declared.journal.Executed.{Executed}
 use Rattle.nz_text.specs.declared.draft.Draft.{Draft}
@@ -49,7 +49,7 @@ reaches_to n d e f a b h is = record { line = h.line; same = h.same ∙ ap (λ (
 
 command_is : (bytes : List ℕ) (o : Option Command) → command_of bytes ≡ o → IsSome o → IsCommand bytes
 command_is bytes None e h = absurd (false≢true h)
-command_is bytes (Some c) e h = let s = spells_from_reading bytes c e in record { command = c; found = e; whole = s.whole; spelled = (tells_valid c).1 s.valid }
+command_is bytes (Some c) e h = let s = spells_from_reading bytes c e in record { command = c; found = e; whole = s.whole; spelled = (validity_is c).1 s.valid }
 
 event_is : (e : ClientEvent) → FitsEvent e → IsLine (event_line e) (line.Event e)
 event_is (Sent id command) h = send_line id command (command_is command (command_of command) refl h.1) h.0

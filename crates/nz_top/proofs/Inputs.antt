@@ -27,7 +27,7 @@ use Rattle.nz_top.specs.declared.playing.NoScenario.{NoScenario}
 use Rattle.nz_top.specs.declared.playing.NoScenario.TheVariants as no_scenario
 use Rattle.nz_top.specs.Reports.{Admits}
 use Rattle.nz_top.specs.Words.{IsInRange, IsReportOf, play_of}
-use Rattle.nz_top.specs.Calls.{CanPlay, Explains, Gives, HasFoul, HasScenario, IsInput, ReadsAs, RefusedAt, TellsBadLine, TellsWhy, WritesLine, refusal_line}
+use Rattle.nz_top.specs.Calls.{CanPlay, Explains, Gives, HasFoul, HasScenario, IsInput, ReadsAs, RefusedAt, WritesBadLine, WritesWhy, WritesLine, refusal_line}
 
 at_end : (most : ℕ) (bytes rest : List ℕ) → length bytes ≤ most → (length bytes < most → rest ≡ []) → bytes ≡ take most (bytes ++ rest)
 at_end most bytes rest few end = go (cases_lt (length bytes) most)
@@ -62,16 +62,16 @@ pub refused_is_input : (before : Option (List ℕ)) (bytes read : List ℕ) (fau
 refused_is_input before bytes read fault line kind h same is f =
     refused_as before bytes line kind h (ap scenario (sym same) ∙ f (λ e. no_want line kind (sym is ∙ e)) ∙ ap Err is)
 
-pub line_told : (play : Play) (left before after : Option (List ℕ)) (counted counts a b line told : ℕ) (kind said : Kind) (why : NoScenario)
-    → why ≡ no_scenario.Refused line kind → told ≡ line → said ≡ kind → Explains play left a b why
-    → WritesLine (refusal_line told said) before after counted counts → TellsBadLine left before after counted counts
-line_told play left before after counted counts a b line told kind said why is same_line same_kind first written = record {
+pub line_written : (play : Play) (left before after : Option (List ℕ)) (counted counts a b line said_line : ℕ) (kind said : Kind) (why : NoScenario)
+    → why ≡ no_scenario.Refused line kind → said_line ≡ line → said ≡ kind → Explains play left a b why
+    → WritesLine (refusal_line said_line said) before after counted counts → WritesBadLine left before after counted counts
+line_written play left before after counted counts a b line said_line kind said why is same_line same_kind first written = record {
   line = line;
   kind = kind;
   first = (subst (Explains play left a b) is first).1;
-  told =
+  written =
       subst (λ (n : ℕ). WritesLine (refusal_line n kind) before after counted counts) same_line
-      (subst (λ (k : Kind). WritesLine (refusal_line told k) before after counted counts) same_kind written);
+      (subst (λ (k : Kind). WritesLine (refusal_line said_line k) before after counted counts) same_kind written);
 }
 
 -- what is read is one scenario
@@ -122,6 +122,6 @@ found_foul play left s id range given foul =
 -- ---- what is reported
 
 pub bad_line_why : (o : Option Command) (play : Play) (left before after : Option (List ℕ)) (counted counts : ℕ) → Some (commands.Play play) ≡ o
-    → TellsBadLine left before after counted counts → TellsWhy (play_of o) left before after counted counts
+    → WritesBadLine left before after counted counts → WritesWhy (play_of o) left before after counted counts
 bad_line_why o play left before after counted counts is h =
-    subst (λ (p : Option Command). TellsWhy (play_of p) left before after counted counts) is (inl h)
+    subst (λ (p : Option Command). WritesWhy (play_of p) left before after counted counts) is (inl h)

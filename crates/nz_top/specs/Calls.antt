@@ -137,27 +137,27 @@ unfoldable pub refusal_line : ℕ → Kind → List ℕ
 refusal_line line kind = codes "refused line " ++ (decimal line ++ (codes ": " ++ (kind_name kind ++ codes "\n")))
 
 -- The first bad line of the input is reported.
-pub record TellsBadLine (left before after : Option (List ℕ)) (counted counts : ℕ) : Type 0 where
+pub record WritesBadLine (left before after : Option (List ℕ)) (counted counts : ℕ) : Type 0 where
   pub line : ℕ
   pub kind : Kind
   pub first : RefusedAt left line kind
-  pub told : WritesLine (refusal_line line kind) before after counted counts
+  pub written : WritesLine (refusal_line line kind) before after counted counts
 
 -- The line that reports the first foul command.
 unfoldable pub foul_line : Id → List ℕ
 foul_line id = codes "refused lock c" ++ (decimal id.client ++ (codes " " ++ (decimal id.num ++ codes "\n")))
 
 -- The first foul command of the scenario is reported.
-pub record TellsFoul (play : Play) (left before after : Option (List ℕ)) (counted counts : ℕ) : Type 0 where
+pub record WritesFoul (play : Play) (left before after : Option (List ℕ)) (counted counts : ℕ) : Type 0 where
   pub id : Id
   pub foul : HasFoul play left id
-  pub told : WritesLine (foul_line id) before after counted counts
+  pub written : WritesLine (foul_line id) before after counted counts
 
 -- What is wrong with the scenario is reported: its first bad line, or its first foul command.
-abbrev pub TellsWhy : Option Play → Option (List ℕ) → Option (List ℕ) → Option (List ℕ) → ℕ → ℕ → Type 0
-TellsWhy None left before after counted counts = ⊥
-TellsWhy (Some play) left before after counted counts =
-    TellsBadLine left before after counted counts ⊎ TellsFoul play left before after counted counts
+abbrev pub WritesWhy : Option Play → Option (List ℕ) → Option (List ℕ) → Option (List ℕ) → ℕ → ℕ → Type 0
+WritesWhy None left before after counted counts = ⊥
+WritesWhy (Some play) left before after counted counts =
+    WritesBadLine left before after counted counts ⊎ WritesFoul play left before after counted counts
 
 -- What is printed of the journal, nothing where nothing is played.
 abbrev pub output_of : Option Play → Journal → List ℕ

@@ -42,7 +42,7 @@ EndsWith Yes status = (status ≡ Done) ⊎ (status ≡ WriteFault)
 EndsWith (No line reason) status = status ≡ Rejected
 
 -- The verdict is written, and the status says which it is.
-pub record TellsVerdict (verdict : Verdict) (before after : Option (List ℕ)) (counted counts : ℕ) (status : Status) : Type 0 where
+pub record WritesVerdict (verdict : Verdict) (before after : Option (List ℕ)) (counted counts : ℕ) (status : Status) : Type 0 where
   pub ends : EndsWith verdict status
   pub line : WritesLine (verdict_line verdict) before after counted counts
   pub done : status ≡ Done → Gains before after (verdict_line verdict)
@@ -51,4 +51,4 @@ pub record TellsVerdict (verdict : Verdict) (before after : Option (List ℕ)) (
 pub record IsJudged (left before after : Option (List ℕ)) (counted counts : ℕ) (status : Status) : Type 0 where
   pub verdict : Verdict
   pub right : IsVerdictOn left verdict
-  pub told : TellsVerdict verdict before after counted counts status
+  pub written : WritesVerdict verdict before after counted counts status

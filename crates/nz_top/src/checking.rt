@@ -4,7 +4,7 @@ ghost use Rattle.nz_edge.specs.Faults.{Rose};
 ghost use Rattle.nz_top.specs.declared.input.Stop.TheVariants as stops;
 ghost use Rattle.nz_top.specs.declared.status.Status.TheVariants as status;
 ghost use Rattle.nz_top.specs.Checking as checking;
-ghost use Rattle.nz_top.specs.Checking.{IsJudged, IsVerdictOn, TellsVerdict, why_name};
+ghost use Rattle.nz_top.specs.Checking.{IsJudged, IsVerdictOn, WritesVerdict, why_name};
 
 use crate::input::{Stop, read_input};
 use crate::output::write_all;
@@ -65,8 +65,8 @@ fn judge_input<S: Source>(alloc: Global, source: &mut S) -> Result<Verdict, Stop
 }
 
 /// Writes the verdict. The status says which it is, and whether it was written.
-fn tell<O: Sink>(out: &mut O, verdict: Verdict) -> Status
-    ensures told { TellsVerdict verdict (O.taken out.old) (O.taken out.new) (O.faults out.old) (O.faults out.new) result }
+fn write_verdict<O: Sink>(out: &mut O, verdict: Verdict) -> Status
+    ensures written { WritesVerdict verdict (O.taken out.old) (O.taken out.new) (O.faults out.old) (O.faults out.new) result }
     ensures write_fault { result ≡ status.WriteFault → Rose (O.faults out.old) (O.faults out.new) }
     ensures counts { O.faults out.old ≤ O.faults out.new }
 {
@@ -95,7 +95,7 @@ pub fn check_input<S: Source, O: Sink>(alloc: Global, source: &mut S, out: &mut 
     ensures counts { (S.faults source.old ≤ S.faults source.new) × (O.faults out.old ≤ O.faults out.new) }
 {
     match judge_input(alloc, source) {
-        Ok(verdict) => tell(out, verdict),
+        Ok(verdict) => write_verdict(out, verdict),
         Err(Stop::Fault) => Status::ReadFault,
         Err(Stop::NoMemory) => Status::NoMemory,
     }

@@ -61,7 +61,7 @@ pub fn refuse<O: Sink>(out: &mut O, line: &[u8])
 }
 
 /// Reports the bad line of the input.
-pub fn tell_bad_line<O: Sink>(out: &mut O, line: u32, kind: Kind)
+pub fn write_bad_line<O: Sink>(out: &mut O, line: u32, kind: Kind)
     ensures line { WritesLine (calls.refusal_line line kind) (O.taken out.old) (O.taken out.new) (O.faults out.old) (O.faults out.new) }
     ensures counts { O.faults out.old ≤ O.faults out.new }
 {
@@ -69,7 +69,7 @@ pub fn tell_bad_line<O: Sink>(out: &mut O, line: u32, kind: Kind)
 }
 
 /// Reports the first foul command of the scenario.
-pub fn tell_foul<O: Sink>(out: &mut O, id: Id)
+pub fn write_foul<O: Sink>(out: &mut O, id: Id)
     ensures line { WritesLine (calls.foul_line id) (O.taken out.old) (O.taken out.new) (O.faults out.old) (O.faults out.new) }
     ensures counts { O.faults out.old ≤ O.faults out.new }
 {

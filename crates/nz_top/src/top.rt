@@ -11,7 +11,7 @@ ghost use Rattle.nz_machine.specs.runs.World.{World};
 ghost use Rattle.nz_top.specs.declared.status.Status.TheVariants as status;
 ghost use Rattle.nz_locks.specs.Clean.{IsCleanScenario};
 ghost use Rattle.nz_top.specs.Calls.{CanPlay, Excludes, Gives, HasPace, HasRead, HasRunOf, IsAdmitted, IsRefused, IsWritten};
-ghost use Rattle.nz_top.specs.Calls.{Reads, ReadsInadmissible, ReadsSource, TakesMemory, TellsWhy, WritesLine, fixed_output, output_of};
+ghost use Rattle.nz_top.specs.Calls.{Reads, ReadsInadmissible, ReadsSource, TakesMemory, WritesWhy, WritesLine, fixed_output, output_of};
 ghost use Rattle.nz_top.specs.Bytes.{TakesPrefix};
 ghost use Rattle.nz_top.specs.Checking.{IsJudged};
 ghost use Rattle.nz_top.specs.Words.{command_of_words, play_of_words, IsAlone, IsCheck};
@@ -21,7 +21,7 @@ use crate::fixed::{write_drawn, write_fixed};
 use crate::help::help_lines;
 use crate::keeping::Keeping;
 use crate::playing::{NoScenario, answer, scenario_for};
-use crate::refusal::{refuse, tell_bad_line, tell_foul};
+use crate::refusal::{refuse, write_bad_line, write_foul};
 use crate::status::{Outcome, Status};
 use crate::words::{Command, Words};
 use nz_edge::{Gate, Sink, Source};
@@ -78,7 +78,7 @@ pub fn nezha<K: Keeping, R: Threads + Wait + Sync, S: Source, O: Sink, G: Gate +
     ensures usage_line { result.status ≡ status.Usage
         → WritesLine (codes "refused words\n") (O.taken out.old) (O.taken out.new) (O.faults out.old) (O.faults out.new) }
     ensures bad_scenario { result.status ≡ status.BadScenario
-        → TellsWhy (play_of_words words.now) (S.left source.old) (O.taken out.old) (O.taken out.new) (O.faults out.old) (O.faults out.new) }
+        → WritesWhy (play_of_words words.now) (S.left source.old) (O.taken out.old) (O.taken out.new) (O.faults out.old) (O.faults out.new) }
     ensures text { result.status ≡ status.Done
         → IfSome result.journal (λ journal. Gains (O.taken out.old) (O.taken out.new) (output_of (play_of_words words.now) journal)) }
     ensures prefix { IfSome result.journal (λ journal. TakesPrefix (O.taken out.old) (O.taken out.new) (output_of (play_of_words words.now) journal)) }
@@ -99,11 +99,11 @@ pub fn nezha<K: Keeping, R: Threads + Wait + Sync, S: Source, O: Sink, G: Gate +
         Command::Play(play) => match scenario_for(alloc, &play, source) {
             Ok(scenario) => answer(rt, alloc, &play, &scenario, out, gate),
             Err(NoScenario::Refused { line, kind }) => {
-                tell_bad_line(out, line, kind);
+                write_bad_line(out, line, kind);
                 Outcome::without_run(Status::BadScenario)
             }
             Err(NoScenario::Foul { id }) => {
-                tell_foul(out, id);
+                write_foul(out, id);
                 Outcome::without_run(Status::BadScenario)
             }
             Err(NoScenario::Fault) => Outcome::without_run(Status::ReadFault),

@@ -84,7 +84,7 @@ pub fn change_timer(state: &mut ReplicaState, sends: &mut Outbox) -> Result<(), 
     Ok(())
 }
 
-/// What a replica does when it is told that the leader is lost.
+/// What a replica does when it learns that the leader is lost.
 #[tactic(auto, unfolding(nz_machine::specs::rules::Views::alarm_rule))]
 pub fn on_alarm(state: &mut ReplicaState, sends: &mut Outbox) -> Result<(), NoMemory>
     ensures { let s = state.old in OnOk result (Does s state.new sends.old sends.new (alarm_rule s.f s.me s.state)) }

@@ -9,10 +9,10 @@ use Rattle.std.proofs.lemmas.List.Elements.{filter-append}
 use Rattle.nz_base.specs.declared.key.Entry.{Entry}
 use Rattle.nz_base.proofs.Booleans.{true_and_false}
 use Rattle.nz_cv.specs.Vectors.{is_stray}
-use Rattle.nz_merge.specs.declared.change.Change.{Change}
+use Rattle.nz_merge.specs.declared.report.Report.{Report}
 use Rattle.nz_merge.specs.Sender.{has_sender, HaveOwnSenders}
 use Rattle.nz_store.specs.Sequence.{apply_bytes, store_after, replies_from, replies}
-use Rattle.nz_machine.specs.declared.data.Reported.{Reported}
+use Rattle.nz_machine.specs.declared.data.CollectedReport.{CollectedReport}
 use Rattle.nz_machine.specs.declared.data.ToldView.{ToldView}
 use Rattle.nz_machine.specs.rules.Replicas.{commands}
 use Rattle.nz_machine.proofs.facts.Stores.{store_pushed, replies_pushed}
@@ -83,37 +83,38 @@ sender_turned a b h =
       | inr apart ↦ apart
     ]
 
-own_sender : (xs : List Change) (c : Change) (ys : List Change) → HaveOwnSenders (xs ++ c ∷ ys) → has_sender xs c.sender ≡ false
+own_sender : (xs : List Report) (c : Report) (ys : List Report) → HaveOwnSenders (xs ++ c ∷ ys) → has_sender xs c.sender ≡ false
 own_sender [] c ys own = refl
 own_sender (x ∷ xs) c ys own =
     let away = sender_away x xs c ys own.0 in
     rw (away, own_sender xs c ys own.1) refl
   where
-    sender_away : (x : Change) (xs : List Change) (c : Change) (ys : List Change) → has_sender (xs ++ c ∷ ys) x.sender ≡ false → (x.sender == c.sender) ≡ false
+    sender_away : (x : Report) (xs : List Report) (c : Report) (ys : List Report) → has_sender (xs ++ c ∷ ys) x.sender ≡ false → (x.sender == c.sender) ≡ false
     sender_away x [] c ys none = sender_turned c.sender x.sender (or_parts (c.sender == x.sender) (has_sender ys x.sender) none).0
     sender_away x (z ∷ xs) c ys none = sender_away x xs c ys (or_parts (z.sender == x.sender) (has_sender (xs ++ c ∷ ys) x.sender) none).1
 
-pub own_reported : (own : Change) (reports : List Reported) (i : ℕ) (d : Reported) → i < length reports → HaveOwnSenders (own ∷ map (λ r. r.change) reports)
-    → has_sender (own ∷ map (λ (r : Reported). r.change) (take i reports)) (get_or reports i d).change.sender ≡ false
+pub own_reported : (own : Report) (reports : List CollectedReport) (i : ℕ) (d : CollectedReport) → i < length reports
+    → HaveOwnSenders (own ∷ map (λ r. r.report) reports)
+    → has_sender (own ∷ map (λ (r : CollectedReport). r.report) (take i reports)) (get_or reports i d).report.sender ≡ false
 own_reported own reports i d within h = go reports i within (own ∷ []) h
   where
-    go : (rs : List Reported) (i : ℕ) → i < length rs → (before : List Change) → HaveOwnSenders (before ++ map (λ (r : Reported). r.change) rs)
-        → has_sender (before ++ map (λ (r : Reported). r.change) (take i rs)) (get_or rs i d).change.sender ≡ false
+    go : (rs : List CollectedReport) (i : ℕ) → i < length rs → (before : List Report) → HaveOwnSenders (before ++ map (λ (r : CollectedReport). r.report) rs)
+        → has_sender (before ++ map (λ (r : CollectedReport). r.report) (take i rs)) (get_or rs i d).report.sender ≡ false
     go [] i within before own = absurd (omega (arith, within))
     go (r ∷ rs) zero within before own =
-        subst (λ (xs : List Change). has_sender xs r.change.sender ≡ false) (sym (append-nil before))
-        (own_sender before r.change (map (λ (r : Reported). r.change) rs) own)
+        subst (λ (xs : List Report). has_sender xs r.report.sender ≡ false) (sym (append-nil before))
+        (own_sender before r.report (map (λ (r : CollectedReport). r.report) rs) own)
     go (r ∷ rs) (suc i) within before own =
-        subst (λ (xs : List Change). has_sender xs (get_or rs i d).change.sender ≡ false)
-        (append_assoc before (r.change ∷ []) (map (λ (r : Reported). r.change) (take i rs)))
-        (go rs i (omega (arith, within)) (before ++ r.change ∷ [])
-        (subst HaveOwnSenders (sym (append_assoc before (r.change ∷ []) (map (λ (r : Reported). r.change) rs))) own))
+        subst (λ (xs : List Report). has_sender xs (get_or rs i d).report.sender ≡ false)
+        (append_assoc before (r.report ∷ []) (map (λ (r : CollectedReport). r.report) (take i rs)))
+        (go rs i (omega (arith, within)) (before ++ r.report ∷ [])
+        (subst HaveOwnSenders (sym (append_assoc before (r.report ∷ []) (map (λ (r : CollectedReport). r.report) rs))) own))
 
-pub changes_more : (own : Change) (reports : List Reported) (i : ℕ) (d : Reported) → i < length reports
-    → own ∷ map (λ r. r.change) (take (i + 1) reports) ≡ (own ∷ map (λ (r : Reported). r.change) (take i reports)) ++ (get_or reports i d).change ∷ []
-changes_more own reports i d within =
-    ap (λ (rs : List Reported). own ∷ map (λ (r : Reported). r.change) rs) (take_more reports i d within)
-    ∙ ap (λ (cs : List Change). own ∷ cs) (map-append (λ (r : Reported). r.change) (take i reports) (get_or reports i d ∷ []))
+pub reports_more : (own : Report) (reports : List CollectedReport) (i : ℕ) (d : CollectedReport) → i < length reports
+    → own ∷ map (λ r. r.report) (take (i + 1) reports) ≡ (own ∷ map (λ (r : CollectedReport). r.report) (take i reports)) ++ (get_or reports i d).report ∷ []
+reports_more own reports i d within =
+    ap (λ (rs : List CollectedReport). own ∷ map (λ (r : CollectedReport). r.report) rs) (take_more reports i d within)
+    ∙ ap (λ (cs : List Report). own ∷ cs) (map-append (λ (r : CollectedReport). r.report) (take i reports) (get_or reports i d ∷ []))
 
 -- ---- a list is executed
 

@@ -10,20 +10,20 @@ use Rattle.nz_base.specs.declared.key.Id.{Id}
 use Rattle.nz_base.specs.declared.key.Entry.{Entry}
 use Rattle.nz_base.specs.Key.{id_eq, id_of}
 use Rattle.nz_merge.specs.Merged.{merged}
-use Rattle.nz_merge.specs.declared.change.Change.{Change}
+use Rattle.nz_merge.specs.declared.report.Report.{Report}
 use Rattle.nz_merge.proofs.Merging as merging
 use Rattle.nz_log.specs.Synced.{Log, unsynced_part, stays_after, is_displaced, left_out}
 use Rattle.nz_buffers.specs.Buffers.{find_id}
 use Rattle.nz_msg.specs.declared.message.ViewChangeBody.{ViewChangeBody}
 use Rattle.nz_msg.specs.declared.message.Message.{Message}
 use Rattle.nz_msg.specs.declared.message.Message.TheVariants as messages
-use Rattle.nz_machine.specs.declared.data.Reported.{Reported}
+use Rattle.nz_machine.specs.declared.data.CollectedReport.{CollectedReport}
 use Rattle.nz_machine.specs.rules.State.{ReplicaData, Out}
 use Rattle.nz_machine.specs.rules.Replicas.{leads, is_down, first_replica}
 use Rattle.nz_machine.specs.rules.Releases.{after_release}
 use Rattle.nz_machine.specs.rules.Views.{alarm_rule}
 use Rattle.nz_machine.specs.rules.Adopting.{with_log}
-use Rattle.nz_machine.specs.rules.Begins.{report_of, changes_of, with_report}
+use Rattle.nz_machine.specs.rules.Begins.{report_of, with_own_report, with_report}
 use Rattle.nz_machine.specs.rules.Rejoining.{crash_rule, restart_rule}
 use Rattle.nz_machine.specs.runs.World.{Has}
 use Rattle.nz_machine.specs.rules.LogMods.{entry_of_id, synced_with, is_still_early}
@@ -41,17 +41,17 @@ pub record IsOwn (f me : ℕ) (heard : Heard) (P : Entry → Type 0) : Type 0 wh
   pub renamed : (s : ReplicaData) (e : Entry) (m : MaySync f me heard s e) → P m.old → id_eq (id_of e.key) (id_of m.old.key) ≡ true → P e
 
 -- the entries of reports
-abbrev pub EachReported : (Entry → Type 0) → List Reported → Type 0
-EachReported P rs = AllByRecursion (λ (r : Reported). AllByRecursion P r.change.log) rs
+abbrev pub EachReported : (Entry → Type 0) → List CollectedReport → Type 0
+EachReported P rs = AllByRecursion (λ (r : CollectedReport). AllByRecursion P r.report.log) rs
 
-pub record Each (P : Entry → Type 0) (l : Log) (es fs : List Entry) (rs : List Reported) : Type 0 where
+pub record Each (P : Entry → Type 0) (l : Log) (es fs : List Entry) (rs : List CollectedReport) : Type 0 where
   pub log : AllByRecursion P l.entries
   pub early : AllByRecursion P es
   pub late : AllByRecursion P fs
   pub reports : EachReported P rs
 
 abbrev pub EachEntry : (Entry → Type 0) → ReplicaData → Type 0
-EachEntry P s = Each P s.log s.early s.late s.changes
+EachEntry P s = Each P s.log s.early s.late s.reports
 
 -- an entry that was found has P, and the id
 abbrev pub IsFoundFor : (Entry → Type 0) → Id → Entry → Type 0
@@ -117,21 +117,22 @@ adopted_each P s list all h =
       reports = h.reports;
     }
 
-each_change : (P : Entry → Type 0) (rs : List Reported) → EachReported P rs → AllByRecursion (λ (c : Change). AllByRecursion P c.log) (map (λ r. r.change) rs)
-each_change P [] all = tt
-each_change P (r ∷ rs) all = (all.0, each_change P rs all.1)
+each_report : (P : Entry → Type 0) (rs : List CollectedReport) → EachReported P rs
+    → AllByRecursion (λ (c : Report). AllByRecursion P c.log) (map (λ r. r.report) rs)
+each_report P [] all = tt
+each_report P (r ∷ rs) all = (all.0, each_report P rs all.1)
 
 collected_each : (P : Entry → Type 0) (f me : ℕ) (heard : Heard) → IsOwn f me heard P → (s : ReplicaData) (sender : ℕ) (b : ViewChangeBody)
     → HearsReport heard s sender b → EachEntry P s → EachEntry P (with_report s sender b)
 collected_each P f me heard own s sender b m h =
-    let Own : Reported → Type 0 = λ r. AllByRecursion P r.change.log in
-    let others = filter (λ (r : Reported). not (r.change.sender == sender)) s.changes in
+    let Own : CollectedReport → Type 0 = λ r. AllByRecursion P r.report.log in
+    let others = filter (λ (r : CollectedReport). not (r.report.sender == sender)) s.reports in
     let brought : AllByRecursion P b.entries = all_of_has P b.entries (λ e has. own.brought e (subst (λ (x : Heard). Brings x e) (sym m.is) has)) in
     record {
       log = h.log;
       early = h.early;
       late = h.late;
-      reports = all_append Own others (report_of sender b ∷ []) (all_filter Own _ s.changes h.reports) (brought, tt);
+      reports = all_append Own others (report_of sender b ∷ []) (all_filter Own _ s.reports h.reports) (brought, tt);
     }
 
 -- ---- the table
@@ -146,7 +147,7 @@ each_kept P f me heard own s _ _ _ (Release e es m) h = released_each P f me s e
 each_kept P f me heard own s _ _ _ (Sync e m) h =
     let old = subst (λ o. IfSome o (IsFoundFor P (id_of e.key))) m.found (found_each P s (id_of e.key) h) in
     synced_each P s e (own.renamed s e m old.0 old.1) h
-each_kept P f me heard own s _ _ _ (Overtake told) h =
+each_kept P f me heard own s _ _ _ (Overtake heard_mod) h =
     record {
       log = h.log;
       early = all_filter P (is_still_early s) s.early h.early;
@@ -154,10 +155,10 @@ each_kept P f me heard own s _ _ _ (Overtake told) h =
       reports = h.reports;
     }
 each_kept P f me heard own s _ _ _ (Enter view m) h = record { log = h.log; early = h.early; late = h.late; reports = tt }
-each_kept P f me heard own s _ _ _ Drop h = record { log = h.log; early = h.early; late = h.late; reports = all_filter _ _ s.changes h.reports }
+each_kept P f me heard own s _ _ _ Drop h = record { log = h.log; early = h.early; late = h.late; reports = all_filter _ _ s.reports h.reports }
 each_kept P f me heard own s _ _ _ (Collect sender b m) h = collected_each P f me heard own s sender b m h
 each_kept P f me heard own s _ _ _ (Begin m) h =
-    adopted_each P s (merged f (changes_of me s)) (merging.entries P f (changes_of me s) (h.log, each_change P s.changes h.reports)) h
+    adopted_each P s (merged f (with_own_report me s)) (merging.entries P f (with_own_report me s) (h.log, each_report P s.reports h.reports)) h
 each_kept P f me heard own s _ _ _ (Start view list commit m) h =
     adopted_each P s list (all_of_has P list (λ e has. own.brought e (log_brought heard m.sender view list commit m.brought e has))) h
 each_kept P f me heard own s _ _ _ _ h = h

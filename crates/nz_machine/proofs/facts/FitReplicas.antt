@@ -110,9 +110,9 @@ keys_each : (es : List Entry) → AllByRecursion FitsEntry es → AllByRecursion
 keys_each es all = all_map key.fits (λ (e : Entry). e.key) es (all_imply FitsEntry (λ (e : Entry). key.fits e.key) (λ e h. h.key) es all)
 
 -- the keys of a log from a place on, as many as a log modification has
-pub told_keys_fit : (s : ReplicaData) (start : ℕ) → IsLedLog s → AllByRecursion FitsEntry s.log.entries
+pub log_mod_keys_fit : (s : ReplicaData) (start : ℕ) → IsLedLog s → AllByRecursion FitsEntry s.log.entries
     → keys.fits (take MAX_KEYS (drop start (keys_of s.log.entries)))
-told_keys_fit s start led all =
+log_mod_keys_fit s start led all =
     let ks = keys_of s.log.entries in
     let few : length (take MAX_KEYS (drop start ks)) ≤ 64 = let long = length-take MAX_KEYS (drop start ks) in omega (arith, long) in
     let fit = all_take key.fits MAX_KEYS (drop start ks) (all_drop key.fits start ks (keys_each s.log.entries all)) in
@@ -311,10 +311,10 @@ log_mod_fits f me s to b c h w =
     let commit = h.commit in
     let within = h.entries.within in
     let few = h.entries.few in
-    let keys_told = told_keys_fit s start (led_log f me s h) (log_each f me s h) in
-    let vector_told = vector_fits f s.vector c.least c.most h.tables.vector in
+    let keys_fit_here = log_mod_keys_fit s start (led_log f me s h) (log_each f me s h) in
+    let vector_fits_here = vector_fits f s.vector c.least c.most h.tables.vector in
     let fit : Fits (messages.LogMod (log_mod_from s start)) =
-    (view_fits s.view h.mode.view, (vector_told, (omega (arith, commit, within, few), (omega (arith, acked), keys_told)))) in
+    (view_fits s.view h.mode.view, (vector_fits_here, (omega (arith, commit, within, few), (omega (arith, acked), keys_fit_here)))) in
     record {
       sender = own_address f me c;
       receiver = other_address f me to c w.receiver;
@@ -324,8 +324,8 @@ log_mod_fits f me s to b c h w =
 fetch_fits : (f me : ℕ) (heard : Heard) (s : ReplicaData) (to : Actor) (b : FetchBody) → IsReplica f me → HeardFits heard → HasFacts f me s
     → ShowsFetch f me heard s to b → FitsOut (Replica me) (to, messages.Fetch b)
 fetch_fits f me heard s to b c k h w =
-    let told : keys.fits w.told.keys = (subst HeardFits w.hears k).1.1.1.1.1 in
-    let left = rest_left w.keys w.told.keys 64 w.rest (record { few = few_keys w.told.keys told; all = keys_of_fit w.told.keys told }) in
+    let in_range : keys.fits w.log_mod.keys = (subst HeardFits w.hears k).1.1.1.1.1 in
+    let left = rest_left w.keys w.log_mod.keys 64 w.rest (record { few = few_keys w.log_mod.keys in_range; all = keys_of_fit w.log_mod.keys in_range }) in
     let asked : AreFew b.ids = subst AreFew (sym w.read) (missing_few s w.keys left) in
     record {
       sender = own_address f me c;

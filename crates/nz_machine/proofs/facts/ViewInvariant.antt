@@ -13,13 +13,13 @@ use Rattle.nz_msg.specs.declared.message.ViewChangeBody.{ViewChangeBody}
 use Rattle.nz_merge.specs.Merged.{greatest, merged}
 use Rattle.nz_machine.specs.declared.data.Status.{Status}
 use Rattle.nz_machine.specs.declared.data.Status.TheVariants.{Normal, ViewChange, Rejoining}
-use Rattle.nz_machine.specs.declared.data.Reported.{Reported}
+use Rattle.nz_machine.specs.declared.data.CollectedReport.{CollectedReport}
 use Rattle.nz_machine.specs.rules.State.{ReplicaData}
 use Rattle.nz_machine.specs.rules.Facts.{IsCarried, FitsReport, HasFacts, IsKeptReplica}
 use Rattle.nz_machine.specs.rules.Replicas.{commands, is_normal, is_changing, is_rejoining}
 use Rattle.nz_machine.specs.rules.Taking.{with_parts}
 use Rattle.nz_machine.specs.rules.Adopting.{with_log, normal_in}
-use Rattle.nz_machine.specs.rules.Begins.{report_of, with_report, without_strays, changes_of, after_begin, begin}
+use Rattle.nz_machine.specs.rules.Begins.{report_of, with_report, without_strays, with_own_report, after_begin, begin}
 use Rattle.nz_machine.specs.rules.Rejoining.{restarted_replica}
 use Rattle.nz_machine.proofs.facts.RulesKeepFacts.{restarted_has_facts}
 use Rattle.nz_machine.proofs.facts.Guards.{changing_no_rejoin}
@@ -72,14 +72,14 @@ kept_rejoining f me s store n k rejoins is =
 
 -- ---- views
 
-pub kept_enter : (f me : ℕ) (s : ReplicaData) (store : Entries) (view : ℕ) (collected : List Reported)
+pub kept_enter : (f me : ℕ) (s : ReplicaData) (store : Entries) (view : ℕ) (collected : List CollectedReport)
     → IsKeptReplica f me s store → s.view ≤ view → view ≤ MAX_VIEW → collected ≡ []
-    → IsKeptReplica f me (record s { status = ViewChange; view = view; changes = collected; since = 0; quiet = 0 }) store
+    → IsKeptReplica f me (record s { status = ViewChange; view = view; reports = collected; since = 0; quiet = 0 }) store
 kept_enter f me s store view collected k later low none = record {
   member = k.member;
   facts =
-      subst (λ (cs : List Reported). HasFacts f me
-      (record s { status = ViewChange; view = view; changes = cs; since = 0; quiet = 0 })) (sym none) (enter_keeps f me s view k.facts later low);
+      subst (λ (cs : List CollectedReport). HasFacts f me
+      (record s { status = ViewChange; view = view; reports = cs; since = 0; quiet = 0 })) (sym none) (enter_keeps f me s view k.facts later low);
   store = λ n l. absurd cc;
 }
 
@@ -101,12 +101,12 @@ kept_start f me s store log early late list view commit k low away c committed i
 
 -- ---- the begin of a view
 
-pub begin_none : (f me : ℕ) (s : ReplicaData) → nat_lt MAX_ENTRIES (length (merged f (changes_of me s))) ≡ true → (begin f me s).0 ≡ s
+pub begin_none : (f me : ℕ) (s : ReplicaData) → nat_lt MAX_ENTRIES (length (merged f (with_own_report me s))) ≡ true → (begin f me s).0 ≡ s
 unfolding begin
 begin_none f me s full = rw full refl
 
-pub begun_state : (f me : ℕ) (s : ReplicaData) → nat_lt MAX_ENTRIES (length (merged f (changes_of me s))) ≡ false
-    → (begin f me s).0 ≡ after_begin f s (merged f (changes_of me s)) (greatest (map (λ c. c.commit) (changes_of me s)))
+pub begun_state : (f me : ℕ) (s : ReplicaData) → nat_lt MAX_ENTRIES (length (merged f (with_own_report me s))) ≡ false
+    → (begin f me s).0 ≡ after_begin f s (merged f (with_own_report me s)) (greatest (map (λ c. c.commit) (with_own_report me s)))
 unfolding begin
 begun_state f me s room = rw room refl
 
@@ -166,15 +166,15 @@ kept_restarted f me nonce s store member small is = record {
 
 -- ---- reports
 
-pub kept_strays : (f me : ℕ) (s : ReplicaData) (store : Entries) (collected : List Reported)
-    → IsKeptReplica f me s store → collected ≡ (without_strays s).changes → IsKeptReplica f me (record s { changes = collected }) store
+pub kept_strays : (f me : ℕ) (s : ReplicaData) (store : Entries) (collected : List CollectedReport)
+    → IsKeptReplica f me s store → collected ≡ (without_strays s).reports → IsKeptReplica f me (record s { reports = collected }) store
 kept_strays f me s store collected k is =
-    kept_facts f me s (record s { changes = collected }) store k
-    (subst (λ (cs : List Reported). HasFacts f me (record s { changes = cs })) (sym is) (strays_keep f me s k.facts)) refl refl refl
+    kept_facts f me s (record s { reports = collected }) store k
+    (subst (λ (cs : List CollectedReport). HasFacts f me (record s { reports = cs })) (sym is) (strays_keep f me s k.facts)) refl refl refl
 
-pub kept_collect : (f me : ℕ) (s : ReplicaData) (store : Entries) (sender : ℕ) (b : ViewChangeBody) (collected : List Reported)
+pub kept_collect : (f me : ℕ) (s : ReplicaData) (store : Entries) (sender : ℕ) (b : ViewChangeBody) (collected : List CollectedReport)
     → IsKeptReplica f me s store → FitsReport f me (report_of sender b)
-    → collected ≡ (with_report s sender b).changes → IsKeptReplica f me (record s { changes = collected }) store
+    → collected ≡ (with_report s sender b).reports → IsKeptReplica f me (record s { reports = collected }) store
 kept_collect f me s store sender b collected k fit is =
-    kept_facts f me s (record s { changes = collected }) store k
-    (subst (λ (cs : List Reported). HasFacts f me (record s { changes = cs })) (sym is) (collect_keeps f me s sender b k.facts fit)) refl refl refl
+    kept_facts f me s (record s { reports = collected }) store k
+    (subst (λ (cs : List CollectedReport). HasFacts f me (record s { reports = cs })) (sym is) (collect_keeps f me s sender b k.facts fit)) refl refl refl

@@ -13,14 +13,14 @@ use Rattle.nz_cv.specs.Vectors.{is_stray}
 use Rattle.nz_math.specs.Count.{AreDistinct}
 use Rattle.nz_merge.specs.Merged.{AreFit, greatest, merged}
 use Rattle.nz_merge.specs.Sender.{HaveOwnSenders}
-use Rattle.nz_merge.specs.declared.change.Change.{Change}
+use Rattle.nz_merge.specs.declared.report.Report.{Report}
 use Rattle.nz_merge.proofs.Merging as merging
 use Rattle.nz_store.specs.Sequence.{replies, replies_from}
 use Rattle.nz_log.specs.Synced.{Log, left_out}
 use Rattle.nz_msg.specs.Fields.{answer}
 use Rattle.nz_msg.specs.declared.message.ViewChangeBody.{ViewChangeBody}
 use Rattle.nz_msg.specs.declared.message.RejoinTellBody.{RejoinTellBody}
-use Rattle.nz_machine.specs.declared.data.Reported.{Reported}
+use Rattle.nz_machine.specs.declared.data.CollectedReport.{CollectedReport}
 use Rattle.nz_machine.specs.declared.data.Rejoin.{Rejoin}
 use Rattle.nz_machine.specs.declared.data.ToldView.{ToldView}
 use Rattle.nz_machine.specs.rules.State.{ReplicaData}
@@ -28,7 +28,7 @@ use Rattle.nz_machine.specs.rules.Facts.{FitsEntry, AreCounters, IsCarried, Fits
 use Rattle.nz_machine.specs.rules.Replicas.{commands}
 use Rattle.nz_machine.specs.rules.Views.{in_view_change}
 use Rattle.nz_machine.specs.rules.Adopting.{with_log, normal_in}
-use Rattle.nz_machine.specs.rules.Begins.{report_of, with_report, without_strays, changes_of, after_begin}
+use Rattle.nz_machine.specs.rules.Begins.{report_of, with_report, without_strays, with_own_report, after_begin}
 use Rattle.nz_machine.specs.rules.Rejoining.{last_counter, with_teller, with_new_counter, ask_views, with_tells, with_tell, latest_view, ask_log}
 use Rattle.nz_machine.proofs.lists.EachItem.{all_append, all_of_prefix, all_filter, all_replicate}
 use Rattle.nz_machine.proofs.lists.ListParts.{all_index}
@@ -37,7 +37,7 @@ use Rattle.nz_machine.proofs.facts.Stores.{answer_fits, replies_pushed}
 use Rattle.nz_machine.proofs.facts.KeysKeepFacts.{apart_held, arranged_overtaken}
 use Rattle.nz_machine.proofs.facts.Adopting.{apart_adopted}
 use Rattle.nz_math.proofs.Counting.{distinct-append}
-use Rattle.nz_machine.proofs.lists.Distinct.{distinct_filter, distinct_replace, any_in, sender_of, changes_in, distinct_senders, own_senders}
+use Rattle.nz_machine.proofs.lists.Distinct.{distinct_filter, distinct_replace, any_in, sender_of, reports_in, distinct_senders, own_senders}
 
 -- ---- the counts of ticks
 
@@ -100,19 +100,19 @@ pub collect_keeps : (f me : ℕ) (s : ReplicaData) (sender : ℕ) (b : ViewChang
     → HasFacts f me (with_report s sender b)
 collect_keeps f me s sender b h fit =
     let report = report_of sender b in
-    let others = filter (λ (r : Reported). not (eqb r.change.sender sender)) s.changes in
+    let others = filter (λ (r : CollectedReport). not (eqb r.report.sender sender)) s.reports in
     let reports : AreReports f me (others ++ report ∷ []) = record {
-      each = all_append (FitsReport f me) others (report ∷ []) (all_filter (FitsReport f me) _ s.changes h.reports.each) (fit, tt);
-      own_senders = own_senders (others ++ report ∷ []) (distinct_replace sender_of s.changes report (distinct_senders s.changes h.reports.own_senders));
+      each = all_append (FitsReport f me) others (report ∷ []) (all_filter (FitsReport f me) _ s.reports h.reports.each) (fit, tt);
+      own_senders = own_senders (others ++ report ∷ []) (distinct_replace sender_of s.reports report (distinct_senders s.reports h.reports.own_senders));
     } in
     grind (arith, h, reports)
 
 pub strays_keep : (f me : ℕ) (s : ReplicaData) → HasFacts f me s → HasFacts f me (without_strays s)
 strays_keep f me s h =
-    let new : Reported → Bool = λ r. not (is_stray r.vector r.change.sender s.vector) in
-    let reports : AreReports f me (filter new s.changes) = record {
-      each = all_filter (FitsReport f me) new s.changes h.reports.each;
-      own_senders = own_senders (filter new s.changes) (distinct_filter sender_of new s.changes (distinct_senders s.changes h.reports.own_senders));
+    let new : CollectedReport → Bool = λ r. not (is_stray r.vector r.report.sender s.vector) in
+    let reports : AreReports f me (filter new s.reports) = record {
+      each = all_filter (FitsReport f me) new s.reports h.reports.each;
+      own_senders = own_senders (filter new s.reports) (distinct_filter sender_of new s.reports (distinct_senders s.reports h.reports.own_senders));
     } in
     grind (arith, h, reports)
 
@@ -125,31 +125,31 @@ own_carried f me s h = record {
   few = h.entries.few;
 }
 
-each_fit : (f me : ℕ) (rs : List Reported) → AllByRecursion (FitsReport f me) rs → AreFit (changes_in rs)
+each_fit : (f me : ℕ) (rs : List CollectedReport) → AllByRecursion (FitsReport f me) rs → AreFit (reports_in rs)
 each_fit f me [] all = tt
 each_fit f me (r ∷ rs) all = (record { log = all.0.entries.log; synced = all.0.synced }, each_fit f me rs all.1)
 
-each_entries : (f me : ℕ) (rs : List Reported) → AllByRecursion (FitsReport f me) rs
-    → AllByRecursion (λ (c : Change). AllByRecursion FitsEntry c.log) (changes_in rs)
+each_entries : (f me : ℕ) (rs : List CollectedReport) → AllByRecursion (FitsReport f me) rs
+    → AllByRecursion (λ (c : Report). AllByRecursion FitsEntry c.log) (reports_in rs)
 each_entries f me [] all = tt
 each_entries f me (r ∷ rs) all = (all.0.entries.fit, each_entries f me rs all.1)
 
 -- the reports that a view begins from may be merged, and are of different replicas
-pub changes_fit : (f me : ℕ) (s : ReplicaData) → HasFacts f me s → AreFit (changes_of me s)
-changes_fit f me s h = (record { log = (own_carried f me s h).log; synced = h.entries.within }, each_fit f me s.changes h.reports.each)
+pub reports_fit : (f me : ℕ) (s : ReplicaData) → HasFacts f me s → AreFit (with_own_report me s)
+reports_fit f me s h = (record { log = (own_carried f me s h).log; synced = h.entries.within }, each_fit f me s.reports h.reports.each)
 
-not_mine : (f me : ℕ) (rs : List Reported) → AllByRecursion (FitsReport f me) rs → IsFalse (list_any (λ (c : Change). c.sender == me) (changes_in rs))
+not_mine : (f me : ℕ) (rs : List CollectedReport) → AllByRecursion (FitsReport f me) rs → IsFalse (list_any (λ (c : Report). c.sender == me) (reports_in rs))
 not_mine f me [] all = refl
 not_mine f me (r ∷ rs) all = let own = all.0.other in let rest = not_mine f me rs all.1 in rw own rest
 
-pub changes_own : (f me : ℕ) (s : ReplicaData) → HasFacts f me s → HaveOwnSenders (changes_of me s)
-changes_own f me s h = (not_mine f me s.changes h.reports.each, h.reports.own_senders)
+pub reports_own : (f me : ℕ) (s : ReplicaData) → HasFacts f me s → HaveOwnSenders (with_own_report me s)
+reports_own f me s h = (not_mine f me s.reports h.reports.each, h.reports.own_senders)
 
-pub merged_carried : (f me : ℕ) (s : ReplicaData) → HasFacts f me s → length (merged f (changes_of me s)) ≤ MAX_ENTRIES
-    → IsCarried (merged f (changes_of me s))
+pub merged_carried : (f me : ℕ) (s : ReplicaData) → HasFacts f me s → length (merged f (with_own_report me s)) ≤ MAX_ENTRIES
+    → IsCarried (merged f (with_own_report me s))
 merged_carried f me s h few = record {
-  log = merging.is_log f (changes_of me s) (changes_fit f me s h);
-  fit = merging.entries FitsEntry f (changes_of me s) ((own_carried f me s h).fit, each_entries f me s.changes h.reports.each);
+  log = merging.is_log f (with_own_report me s) (reports_fit f me s h);
+  fit = merging.entries FitsEntry f (with_own_report me s) ((own_carried f me s h).fit, each_entries f me s.reports h.reports.each);
   few = few;
 }
 

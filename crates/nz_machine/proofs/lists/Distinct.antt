@@ -6,8 +6,8 @@ use Rattle.nz_base.proofs.Booleans.{true_and_false}
 use Rattle.nz_math.specs.Count.{is_in, AreDistinct}
 use Rattle.nz_math.proofs.Counting.{distinct-append}
 use Rattle.nz_merge.specs.Sender.{has_sender, HaveOwnSenders}
-use Rattle.nz_merge.specs.declared.change.Change.{Change}
-use Rattle.nz_machine.specs.declared.data.Reported.{Reported}
+use Rattle.nz_merge.specs.declared.report.Report.{Report}
+use Rattle.nz_machine.specs.declared.data.CollectedReport.{CollectedReport}
 
 -- The test by an equation and the test of membership are the same.
 pub any_in : (xs : List ℕ) (y : ℕ) → list_any (λ t. eqb t y) xs ≡ is_in xs y
@@ -65,21 +65,21 @@ module _ {X : Type 0} (key : X → ℕ) where
 
 -- ---- reports
 
-abbrev pub sender_of : Reported → ℕ
-sender_of r = r.change.sender
+abbrev pub sender_of : CollectedReport → ℕ
+sender_of r = r.report.sender
 
-abbrev pub changes_in : List Reported → List Change
-changes_in rs = map (λ r. r.change) rs
+abbrev pub reports_in : List CollectedReport → List Report
+reports_in rs = map (λ r. r.report) rs
 
-pub has_sender_in : (rs : List Reported) (y : ℕ) → has_sender (changes_in rs) y ≡ is_in (map sender_of rs) y
+pub has_sender_in : (rs : List CollectedReport) (y : ℕ) → has_sender (reports_in rs) y ≡ is_in (map sender_of rs) y
 has_sender_in [] y = refl
-has_sender_in (r ∷ rs) y = ap (λ b. eqb r.change.sender y || b) (has_sender_in rs y)
+has_sender_in (r ∷ rs) y = ap (λ b. eqb r.report.sender y || b) (has_sender_in rs y)
 
 -- the reports' senders differ, said in two ways
-pub distinct_senders : (rs : List Reported) → HaveOwnSenders (changes_in rs) → AreDistinct (map sender_of rs)
+pub distinct_senders : (rs : List CollectedReport) → HaveOwnSenders (reports_in rs) → AreDistinct (map sender_of rs)
 distinct_senders [] own = tt
-distinct_senders (r ∷ rs) own = (sym (has_sender_in rs r.change.sender) ∙ own.0, distinct_senders rs own.1)
+distinct_senders (r ∷ rs) own = (sym (has_sender_in rs r.report.sender) ∙ own.0, distinct_senders rs own.1)
 
-pub own_senders : (rs : List Reported) → AreDistinct (map sender_of rs) → HaveOwnSenders (changes_in rs)
+pub own_senders : (rs : List CollectedReport) → AreDistinct (map sender_of rs) → HaveOwnSenders (reports_in rs)
 own_senders [] own = tt
-own_senders (r ∷ rs) own = (has_sender_in rs r.change.sender ∙ own.0, own_senders rs own.1)
+own_senders (r ∷ rs) own = (has_sender_in rs r.report.sender ∙ own.0, own_senders rs own.1)

@@ -43,7 +43,7 @@ use Rattle.nz_machine.specs.rules.Releases.{release_rule}
 use Rattle.nz_machine.specs.rules.LogMods.{synced_with, overtaken_to_late, with_commit, log_mod_rule, fetch_rule, fetch_reply_rule, sync_report_rule}
 use Rattle.nz_machine.specs.rules.Views.{alarm_rule, view_ask_rule}
 use Rattle.nz_machine.specs.rules.Adopting.{normal_in, start_view_rule}
-use Rattle.nz_machine.specs.rules.Begins.{report_of, changes_of, view_change_rule}
+use Rattle.nz_machine.specs.rules.Begins.{report_of, with_own_report, view_change_rule}
 use Rattle.nz_machine.specs.rules.Rejoining.{latest_view, crash_rule, restart_rule, vector_ask_rule, vector_tell_rule}
 use Rattle.nz_machine.specs.rules.Rejoining.{rejoin_ask_rule, rejoin_tell_rule, state_ask_rule, state_tell_rule}
 use Rattle.nz_machine.specs.runs.Hearing.{Heard}
@@ -99,7 +99,7 @@ pub record IsTaking (f me : ℕ) (s : ReplicaData) : Type 0 where
   pub commit : s.commit ≤ s.log.synced
   pub tables : AreTables f s.vector s.ack s.origin
   pub executed : AreExecuted f me s.status s.view s.log s.results s.ack
-  pub reports : AreReports f me s.changes
+  pub reports : AreReports f me s.reports
   pub rejoin : IsRejoin f s.rejoin
 
 -- the facts in a phase
@@ -116,8 +116,8 @@ synced_apart : (f me : ℕ) (heard : Heard) → HearsFit f me heard → (s : Rep
     → AreApart s.log s.early s.late → AreApart (synced_with s e).log (synced_with s e).early (synced_with s e).late
 synced_apart f me heard fit s e m h =
     let may = may_sync_true s.log e.key m.may in
-    let keys = fit.keys m.told.sender m.told.body m.told.is in
-    let key = subst (λ o. IfSome o fields.key.fits) m.key (all_get fields.key.fits m.told.body.keys (s.log.synced - m.told.body.start) keys) in
+    let keys = fit.keys m.heard_mod.sender m.heard_mod.body m.heard_mod.is in
+    let key = subst (λ o. IfSome o fields.key.fits) m.key (all_get fields.key.fits m.heard_mod.body.keys (s.log.synced - m.heard_mod.body.start) keys) in
     let command = (found_fits s.log s.early s.late (id_of e.key) m.old h m.found).command in
     apart_synced s.log s.early s.late e h (record { key = key; command = subst fields.command.fits (sym m.same) command }) may.above may.fresh may.room
 
@@ -125,7 +125,7 @@ sync_kept : (f me : ℕ) (heard : Heard) → HearsFit f me heard → (s : Replic
     → IsTaking f me (synced_with s e)
 sync_kept f me heard fit s e m h =
     let apart = synced_apart f me heard fit s e m h.entries in
-    let leader = m.told.leader in
+    let leader = m.heard_mod.leader in
     let up = normal_up s.status leader.normal in
     grind (arith, h, apart, leader, up)
 
@@ -160,11 +160,11 @@ facts_kept f me heard fit s _ _ _ (ToLate e m none) h =
     (arranged_late s.log.entries s.early s.late e h.entries.arranged (fit.brought e m.brought) m.logged m.held none)
 facts_kept f me heard fit s _ _ _ (Release e es m) h = released_keeps f me s e es h m.normal m.first (has_place_left s e m.may)
 facts_kept f me heard fit s _ _ _ (Merge r m v new) h = vector_keeps f me s v h (fit.vector r m v new.is new.carries)
-facts_kept f me heard fit s _ _ _ (Take told) h = take_kept f me s h
+facts_kept f me heard fit s _ _ _ (Take heard_mod) h = take_kept f me s h
 facts_kept f me heard fit s _ _ _ (Sync e m) h = sync_kept f me heard fit s e m h
-facts_kept f me heard fit s _ _ _ (Overtake told) h = overtake_kept f me s h
-facts_kept f me heard fit s _ _ _ (Commit told) h = let so_far = h.commit in
-    commit_keeps f me s (max s.commit (min told.body.commit s.log.synced)) h (omega (arith, so_far))
+facts_kept f me heard fit s _ _ _ (Overtake heard_mod) h = overtake_kept f me s h
+facts_kept f me heard fit s _ _ _ (Commit heard_mod) h = let so_far = h.commit in
+    commit_keeps f me s (max s.commit (min heard_mod.body.commit s.log.synced)) h (omega (arith, so_far))
 facts_kept f me heard fit s _ _ _ (NoteAck sender count m) h = let low = m.low in let same = m.same in
     ack_keeps f me s sender count h (omega (arith, low, same))
 facts_kept f me heard fit s _ _ _ (Tally named m) h = commit_keeps f me s (with_commit f me s).commit h (tallied_low f me named s m h)
@@ -173,7 +173,7 @@ facts_kept f me heard fit s _ _ _ (Enter view m) h =
 facts_kept f me heard fit s _ _ _ Drop h = strays_keep f me s h
 facts_kept f me heard fit s _ _ _ (Collect sender b m) h = collect_keeps f me s sender b h (fit.report sender b m.is)
 facts_kept f me heard fit s _ _ _ (Begin m) h =
-    begin_keeps f me s (merged f (changes_of me s)) (greatest (map (λ c. c.commit) (changes_of me s))) h (merged_carried f me s h m.few)
+    begin_keeps f me s (merged f (with_own_report me s)) (greatest (map (λ c. c.commit) (with_own_report me s))) h (merged_carried f me s h m.few)
 facts_kept f me heard fit s _ _ _ (Start view list commit m) h = start_kept f me heard fit s view list commit m h
 facts_kept f me heard fit s _ _ _ (NoteTeller sender vector m) h =
     let counters = fit.vector sender (messages.VectorTell m.body) m.body.vector m.is refl in

@@ -48,7 +48,7 @@ use Rattle.nz_machine.specs.rules.Vectors.{with_vector, unless_stray}
 use Rattle.nz_machine.specs.rules.Views.{view_calls, enter_view, enter_next, enter_later}
 use Rattle.nz_machine.specs.rules.Views.{quiet_timer, change_timer, alarm_rule, view_ask_rule}
 use Rattle.nz_machine.specs.rules.Adopting.{normal_in, may_start, after_start, start_view_message, start_view_rule}
-use Rattle.nz_machine.specs.rules.Begins.{changes_of, with_report, without_strays, begin, collect, hear_report, may_lead, view_change_rule}
+use Rattle.nz_machine.specs.rules.Begins.{with_own_report, with_report, without_strays, begin, collect, hear_report, may_lead, view_change_rule}
 use Rattle.nz_machine.specs.rules.Rejoining.{last_counter, awaits, is_enough, rejoin_tell_message, state_tell_message, with_teller}
 use Rattle.nz_machine.specs.rules.Rejoining.{with_new_counter, with_tells, with_tell, latest_view, ask_views, ask_log, after_vectors, after_views, ask_again}
 use Rattle.nz_machine.specs.rules.Rejoining.{rejoin_timer, vector_ask_rule, rejoin_ask_rule, state_ask_rule, vector_tell_rule, rejoin_tell_rule}
@@ -163,8 +163,8 @@ rest_left (x ∷ xs) zero y ys is = cc
 rest_left (x ∷ xs) (suc n) y ys is = rest_left xs n y ys is
 
 module _ (P : Interval → ReplicaData → Type 0) (f me sender : ℕ) (b : LogModBody) (c : Closed f me (Some (Replica sender, messages.LogMod b)) P) where
-  abbrev told_by : (s : ReplicaData) → HearsLeader f me s.status s.view sender b.view → HearsLogMod f me (Some (Replica sender, messages.LogMod b)) s
-  told_by s leader = record { sender = sender; body = b; is = refl; leader = leader }
+  abbrev heard_mod_by : (s : ReplicaData) → HearsLeader f me s.status s.view sender b.view → HearsLogMod f me (Some (Replica sender, messages.LogMod b)) s
+  heard_mod_by s leader = record { sender = sender; body = b; is = refl; leader = leader }
 
   record HasTaken (s : ReplicaData) : Type 0 where
     pub leader : HearsLeader f me s.status s.view sender b.view
@@ -190,7 +190,7 @@ module _ (P : Interval → ReplicaData → Type 0) (f me sender : ℕ) (b : LogM
       let e : Entry = record { key = k; command = old.command } in
       let m : MaySync f me (Some (Replica sender, messages.LogMod b)) s e =
       record {
-        told = told_by s h.leader;
+        heard_mod = heard_mod_by s h.leader;
         start = next.start;
         key = first_left b.keys (s.log.synced - b.start) k keys next.left;
         may = may;
@@ -213,8 +213,8 @@ module _ (P : Interval → ReplicaData → Type 0) (f me sender : ℕ) (b : LogM
       let u = (sync_keys s keys).0 in
       let after : b.start ≤ s.log.synced → P Whole (committed_to (overtaken_to_late u) b.commit) =
       λ start.
-      let t = sync_moves s keys (record { start = start; left = refl }) (record { leader = leader; has = c.kept _ _ _ _ (Take (told_by s leader)) h }) in
-      c.kept _ _ _ _ (Commit (told_by (overtaken_to_late u) t.leader)) (c.kept _ _ _ _ (Overtake (told_by u t.leader)) t.has) in
+      let t = sync_moves s keys (record { start = start; left = refl }) (record { leader = leader; has = c.kept _ _ _ _ (Take (heard_mod_by s leader)) h }) in
+      c.kept _ _ _ _ (Commit (heard_mod_by (overtaken_to_late u) t.leader)) (c.kept _ _ _ _ (Overtake (heard_mod_by u t.leader)) t.has) in
       grind (arith, nat_tests, after)
 
   pub log_mod_moves : (s : ReplicaData) → P Whole s → P Whole (log_mod_rule f me s sender b).0
@@ -360,7 +360,7 @@ module _ (P : Interval → ReplicaData → Type 0) (f me sender : ℕ) (b : View
   begin_moves : (s : ReplicaData) → is_changing s.status ≡ true → P Whole s → P Whole (begin f me s).0
   unfolding begin
   begin_moves s changing h =
-      let log = merged f (changes_of me s) in
+      let log = merged f (with_own_report me s) in
       cond_both (nat_lt MAX_ENTRIES (length log)) (s, []) _ (Ends P) (λ _. h)
       (λ room. c.kept _ _ _ _ (Begin (record { changing = changing; few = grind (arith, nat_tests, room) })) h)
 
@@ -368,7 +368,7 @@ module _ (P : Interval → ReplicaData → Type 0) (f me sender : ℕ) (b : View
   collect_moves s changing h =
       let more = with_report s sender b in
       let k : P Whole more = c.kept _ _ _ _ (Collect sender b (record { is = refl; changing = changing })) h in
-      cond_both (eqb (length more.changes) f) (begin f me more) (more, []) (Ends P) (λ _. begin_moves more changing k) (λ _. k)
+      cond_both (eqb (length more.reports) f) (begin f me more) (more, []) (Ends P) (λ _. begin_moves more changing k) (λ _. k)
 
   report_moves : (s : ReplicaData) → P Whole s → P Whole (hear_report f me sender b s).0
   report_moves s h =

@@ -25,7 +25,7 @@ use Rattle.nz_machine.specs.rules.LogMods.{entry_of_id, may_sync, synced_with, o
 use Rattle.nz_machine.specs.rules.Vectors.{with_vector}
 use Rattle.nz_machine.specs.rules.Views.{in_view_change}
 use Rattle.nz_machine.specs.rules.Adopting.{normal_in}
-use Rattle.nz_machine.specs.rules.Begins.{changes_of, with_report, without_strays, after_begin}
+use Rattle.nz_machine.specs.rules.Begins.{with_own_report, with_report, without_strays, after_begin}
 use Rattle.nz_machine.specs.rules.Rejoining.{last_counter, with_teller, with_new_counter, ask_views, with_tells, with_tell, latest_view, ask_log}
 use Rattle.nz_machine.specs.runs.World.{Has}
 use Rattle.nz_machine.specs.runs.Hearing.{Heard}
@@ -68,9 +68,9 @@ pub record HearsLogMod (f me : ℕ) (heard : Heard) (s : ReplicaData) : Type 0 w
 
 -- the message's key for the first place that is not synced, with the command that is found for its id
 pub record MaySync (f me : ℕ) (heard : Heard) (s : ReplicaData) (e : Entry) : Type 0 where
-  pub told : HearsLogMod f me heard s
-  pub start : told.body.start ≤ s.log.synced
-  pub key : slice_get told.body.keys (s.log.synced - told.body.start) ≡ Some e.key
+  pub heard_mod : HearsLogMod f me heard s
+  pub start : heard_mod.body.start ≤ s.log.synced
+  pub key : slice_get heard_mod.body.keys (s.log.synced - heard_mod.body.start) ≡ Some e.key
   pub may : may_sync s e.key ≡ true
   pub old : Entry
   pub found : entry_of_id s (id_of e.key) ≡ Some old
@@ -106,7 +106,7 @@ pub record HearsReport (heard : Heard) (s : ReplicaData) (sender : ℕ) (b : Vie
 -- the merged log has room, and it is the view change
 pub record MayBegin (f me : ℕ) (s : ReplicaData) : Type 0 where
   pub changing : is_changing s.status ≡ true
-  pub few : length (merged f (changes_of me s)) ≤ MAX_ENTRIES
+  pub few : length (merged f (with_own_report me s)) ≤ MAX_ENTRIES
 
 -- a message brings the whole log of a view, with how much of it is committed
 abbrev pub BringsLog : Heard → ℕ → ℕ → List Entry → ℕ → Type 0
@@ -114,7 +114,7 @@ BringsLog (Some (Replica r, messages.StartView b)) sender view log commit = (sen
 BringsLog (Some (Replica r, messages.StateTell b)) sender view log commit = (sender ≡ r) × (view ≡ b.view) × (log ≡ b.entries) × (commit ≡ b.commit)
 BringsLog _ sender view log commit = ⊥
 
--- it is the leader of the view that tells it
+-- it is the leader of the view that sends it
 pub record MayStart (f : ℕ) (heard : Heard) (s : ReplicaData) (view : ℕ) (log : List Entry) (commit : ℕ) : Type 0 where
   pub sender : ℕ
   pub brought : BringsLog heard sender view log commit
@@ -149,13 +149,14 @@ pub data Move (f me : ℕ) (heard : Heard) (s : ReplicaData) : Interval → Inte
   Take : HearsLogMod f me heard s → Move f me heard s Whole Taking s
   Sync : (e : Entry) → MaySync f me heard s e → Move f me heard s Taking Taking (synced_with s e)
   Overtake : HearsLogMod f me heard s → Move f me heard s Taking Whole (overtaken_to_late s)
-  Commit : (told : HearsLogMod f me heard s) → Move f me heard s Whole Whole (committed_to s told.body.commit)
+  Commit : (heard_mod : HearsLogMod f me heard s) → Move f me heard s Whole Whole (committed_to s heard_mod.body.commit)
   NoteAck : (sender synced : ℕ) → MayNote f me heard s sender synced → Move f me heard s Whole Whole (with_ack s sender synced)
   Tally : (named : ℕ) → IsLeader f me s.status s.view named → Move f me heard s Whole Whole (with_commit f me s)
   Enter : (view : ℕ) → MayEnter heard s view → Move f me heard s Whole Whole (in_view_change s view)
   Drop : Move f me heard s Whole Whole (without_strays s)
   Collect : (sender : ℕ) (b : ViewChangeBody) → HearsReport heard s sender b → Move f me heard s Whole Whole (with_report s sender b)
-  Begin : MayBegin f me s → Move f me heard s Whole Whole (after_begin f s (merged f (changes_of me s)) (greatest (map (λ c. c.commit) (changes_of me s))))
+  Begin : MayBegin f me s → Move f me heard s Whole Whole
+      (after_begin f s (merged f (with_own_report me s)) (greatest (map (λ c. c.commit) (with_own_report me s))))
   Start : (view : ℕ) (log : List Entry) (commit : ℕ) → MayStart f heard s view log commit → Move f me heard s Whole Whole (normal_in s view log commit)
   NoteTeller : (sender : ℕ) (vector : List ℕ) → HearsTeller heard s sender vector → Move f me heard s Whole Whole (with_teller me s sender vector)
   TakeCounter : eqb s.rejoin.claim last_counter ≡ false → is_rejoining s.status ≡ true → Move f me heard s Whole Whole (with_new_counter me s)

@@ -149,6 +149,7 @@ IsNot nonce e = ¬ (e ≡ Restart nonce)
 before_not : (e : Event) (nonce : ℕ) → IsBefore e (Restart nonce) → IsNot nonce e
 before_not e nonce h same = let lt : nonce < nonce = subst (λ (f : Event). IsBefore f (Restart nonce)) same h in omega (arith, lt)
 
+-- What all items have, the one at a place has.
 pub got : {X : Type 0} (P : X → Type 0) (xs : List X) (i : ℕ) (x : X) → AllByRecursion P xs → slice_get xs i ≡ Some x → P x
 got P [] i x all e = absurd (none-some x e)
 got P (y ∷ xs) zero x all e = subst P (same_Some y x e) all.0

@@ -25,11 +25,13 @@ use Rattle.nz_machine.proofs.lists.EachItem.{all_imply}
 
 -- ---- states
 
+-- The actor of a record has the state of the record's step.
 pub acts : (g : Group) (a : Actor) (r : Record) (J : List Record) → actor_eq r.actor a ≡ true
     → state_after g a (r ∷ J) ≡ (event_step g a (state_after g a J) r.event).0
 unfolding state_after
 acts g a r J e = ap (λ b. cond b (event_step g a (state_after g a J) r.event).0 (state_after g a J)) e
 
+-- Any other actor stays as it was.
 pub stays : (g : Group) (a : Actor) (r : Record) (J : List Record) → actor_eq r.actor a ≡ false → state_after g a (r ∷ J) ≡ state_after g a J
 unfolding state_after
 stays g a r J e = ap (λ b. cond b (event_step g a (state_after g a J) r.event).0 (state_after g a J)) e
@@ -237,6 +239,7 @@ module _ (g : Group) (P : List Record → Actor → Out → Type 0) (Q : List Re
         })
       ]
 
+  -- What is read of a parcel that may come has the fact of what was sent.
   pub delivered : Keeps → (J : List Record) → Holds J → (a : Actor) (q : Parcel) → MayHappen J a (Deliver q) → Reads J a (accepted_envelope g.f a q)
   delivered k J h a q may = let s = sent_from (P J) J q h.sends may.1 in reads_sent J a q may.0 s (k.fits J s.by s.out s.has)
 
@@ -268,6 +271,7 @@ module _ (g : Group) (P : List Record → Actor → Out → Type 0) (Q : List Re
       subst (λ (x : Actor). Q (r ∷ J) x (state_after g x (r ∷ J))) (same_actor r.actor a e) at_actor
   state_keeps k J r w h q a false e = subst (λ s. Q (r ∷ J) a s) (sym (stays g a r J e)) (k.state_stays J r w a _ (h.states a))
 
+  -- Facts that each step keeps hold in every run.
   pub holds : Keeps → (J : List Record) → World g J → Holds J
   unfolding state_after
   holds k [] w = record { sends = tt; states = k.start }

@@ -121,17 +121,17 @@ read_right g J w a p e has heard =
     subst (λ (q : Parcel). IsReadRight a q e) (sym s.is) (right_by g.f a s.by s.out e s.has (ap (accepted_envelope g.f a) (sym s.is) ∙ heard))
 
 -- what is read of a parcel that was sent shows its sender at the record that first sent it
-pub record IsTold (g : Group) (J : List Record) (p : Parcel) (a : Actor) (e : Envelope) : Type 0 where
+pub record HasSenderShown (g : Group) (J : List Record) (p : Parcel) (a : Actor) (e : Envelope) : Type 0 where
   pub newest : Record
   pub older : List Record
   pub first : source p J ≡ Some (newest ∷ older)
   pub at : At J (newest ∷ older)
-  pub told : IsShown g e.from newest older a e.message
+  pub sender_shows : IsShown g e.from newest older a e.message
 
 -- each parcel that is read shows its sender
-pub told : (g : Group) (J : List Record) → World g J → (a : Actor) (p : Parcel) (e : Envelope) → Has (sent_in J) p → accepted_envelope g.f a p ≡ Some e
-    → IsTold g J p a e
-told g J w a p e has heard =
+pub sender_is_shown : (g : Group) (J : List Record) → World g J → (a : Actor) (p : Parcel) (e : Envelope) → Has (sent_in J) p
+    → accepted_envelope g.f a p ≡ Some e → HasSenderShown g J p a e
+sender_is_shown g J w a p e has heard =
     let right = read_right g J w a p e has heard in
     let k = has_source p J has in
     let s = source_is p J k.0 k.1 in
@@ -141,7 +141,7 @@ told g J w a p e has heard =
       older = s.older;
       first = k.1 ∙ ap Some s.is;
       at = s.at;
-      told = shown_by g J w e.from s.newest s.older a e.message s.at right.fits sends;
+      sender_shows = shown_by g J w e.from s.newest s.older a e.message s.at right.fits sends;
     }
 
 -- ---- what is heard in a record
@@ -217,11 +217,11 @@ size_of f None u e h = absurd (none-some u e)
 size_of f (Some v) u e h = ap length (sym (same_Some v u e)) ∙ eqb-true (length v) (replica_count f) h
 
 -- the vector of an ask whose vector was merged, off the own place
-told_at : (g : Group) (m : ℕ) (r : Record) (K : List Record) (from : Actor) (message : Message) (u : List ℕ) → World g K
+ask_is_merged : (g : Group) (m : ℕ) (r : Record) (K : List Record) (from : Actor) (message : Message) (u : List ℕ) → World g K
     → heard_at g (Replica m) r.event ≡ Some (from, message) → message_vector message ≡ Some u
     → (replica_at g m (r ∷ K)).vector ≡ merged_vector (replica_at g m K).vector u m
     → (k : ℕ) → k ≢ m → slice_index u k ≤ slice_index (replica_at g m (r ∷ K)).vector k
-told_at g m r K from message u w heard carries taken k other =
+ask_is_merged g m r K from message u w heard carries taken k other =
     let d = delivers g (Replica m) r.event from message heard in
     let size = size_of g.f (message_vector message) u carries (ap (λ (x : Message). is_sized g.f (message_vector x)) (sym d.message_is) ∙ d.counts.sized) in
     let own = ((all_fit g K w).states (Replica m)).tables.vector.size in
@@ -231,10 +231,10 @@ pub rejoin_tell_takes : (g : Group) (m : ℕ) (r : Record) (K : List Record) (to
     → (w : ShowsRejoinTell g.f m (heard_at g (Replica m) r.event) (replica_at g m K) (replica_at g m (r ∷ K)) to b)
     → (k : ℕ) → k ≢ m → slice_index w.ask.vector k ≤ slice_index (replica_at g m (r ∷ K)).vector k
 rejoin_tell_takes g m r K to b world w k other =
-    told_at g m r K (Replica w.asker) (messages.RejoinAsk w.ask) w.ask.vector world w.hears refl w.taken k other
+    ask_is_merged g m r K (Replica w.asker) (messages.RejoinAsk w.ask) w.ask.vector world w.hears refl w.taken k other
 
 pub state_tell_takes : (g : Group) (m : ℕ) (r : Record) (K : List Record) (to : Actor) (b : StateTellBody) → World g K
     → (w : ShowsStateTell g.f m (heard_at g (Replica m) r.event) (replica_at g m K) (replica_at g m (r ∷ K)) to b)
     → (k : ℕ) → k ≢ m → slice_index w.ask.vector k ≤ slice_index (replica_at g m (r ∷ K)).vector k
 state_tell_takes g m r K to b world w k other =
-    told_at g m r K (Replica w.asker) (messages.StateAsk w.ask) w.ask.vector world w.hears refl w.taken k other
+    ask_is_merged g m r K (Replica w.asker) (messages.StateAsk w.ask) w.ask.vector world w.hears refl w.taken k other

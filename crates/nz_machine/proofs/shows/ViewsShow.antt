@@ -8,7 +8,7 @@ use Rattle.nz_base.specs.declared.actor.Actor.TheVariants.{Replica}
 use Rattle.nz_base.specs.declared.key.Entry.{Entry}
 use Rattle.nz_base.specs.declared.limits.TheConstants.{MAX_ENTRIES, VIEW_TIMEOUT_TICKS}
 use Rattle.nz_merge.specs.Merged.{merged, greatest}
-use Rattle.nz_merge.specs.declared.change.Change.{Change}
+use Rattle.nz_merge.specs.declared.report.Report.{Report}
 use Rattle.nz_msg.specs.declared.message.ViewAskBody.{ViewAskBody}
 use Rattle.nz_msg.specs.declared.message.ViewChangeBody.{ViewChangeBody}
 use Rattle.nz_msg.specs.declared.message.StartViewBody.{StartViewBody}
@@ -20,7 +20,7 @@ use Rattle.nz_machine.specs.rules.Vectors.{with_vector}
 use Rattle.nz_machine.specs.rules.Views.{in_view_change, view_ask_message, view_change_message, to_leader, view_calls}
 use Rattle.nz_machine.specs.rules.Views.{enter_view, alarm_rule, view_ask_rule, quiet_timer, change_timer}
 use Rattle.nz_machine.specs.rules.Adopting.{start_view_message, start_view_rule, after_start}
-use Rattle.nz_machine.specs.rules.Begins.{changes_of, after_begin, with_report, without_strays, collect, begin, view_change_rule}
+use Rattle.nz_machine.specs.rules.Begins.{with_own_report, after_begin, with_report, without_strays, collect, begin, view_change_rule}
 use Rattle.nz_machine.specs.runs.Hearing.{Heard}
 use Rattle.nz_machine.specs.runs.Shows.{IsOther, ReplicaShows}
 use Rattle.nz_machine.proofs.lists.EachItem.{all_append}
@@ -91,9 +91,9 @@ start_view_silent f me heard s sender b =
 begin_shows : (f me : ℕ) (heard : Heard) (before s : ReplicaData) → leads f me s ≡ true → Shown f me heard before (begin f me s)
 unfolding begin
 begin_shows f me heard before s lead =
-    let changes = changes_of me s in
-    let log = merged f changes in
-    let begun = after_begin f s log (greatest (map (λ (c : Change). c.commit) changes)) in
+    let reports = with_own_report me s in
+    let log = merged f reports in
+    let begun = after_begin f s log (greatest (map (λ (c : Report). c.commit) reports)) in
     cond_both (nat_lt MAX_ENTRIES (length log)) (s, []) (begun, to_others f me (start_view_message begun)) (Shown f me heard before)
     (λ _. silent f me heard before s)
     (λ _. record {
@@ -105,7 +105,7 @@ collect_shows : (f me : ℕ) (heard : Heard) (before : ReplicaData) (sender : �
     → Shown f me heard before (collect f me sender b s)
 collect_shows f me heard before sender b s lead =
     let more = with_report s sender b in
-    cond_both (eqb (length more.changes) f) (begin f me more) (more, []) (Shown f me heard before) (λ _. begin_shows f me heard before more lead)
+    cond_both (eqb (length more.reports) f) (begin f me more) (more, []) (Shown f me heard before) (λ _. begin_shows f me heard before more lead)
     (λ _. silent f me heard before more)
 
 -- the replica is still up in the view
@@ -123,7 +123,7 @@ begin_in f me s changing =
 collect_in : (f me sender : ℕ) (b : ViewChangeBody) (s : ReplicaData) → is_changing s.status ≡ true → IsIn s.view (collect f me sender b s).0
 collect_in f me sender b s changing =
     let more = with_report s sender b in
-    cond_both (eqb (length more.changes) f) (begin f me more) (more, []) (λ (t : ReplicaData × List Out). IsIn s.view t.0)
+    cond_both (eqb (length more.reports) f) (begin f me more) (more, []) (λ (t : ReplicaData × List Out). IsIn s.view t.0)
     (λ _. begin_in f me more changing) (λ _. record { up = changing_up s.status changing; same = refl })
 
 -- a view that is entered and collected for, or begun

@@ -47,6 +47,7 @@ has_found test [] p e = absurd (none-some p e)
 has_found test (x ∷ ps) p e = cond_both (test x) (Some x) (find test ps) (λ (o : Option Parcel). o ≡ Some p → Has (x ∷ ps) p)
     (λ yes h. inl (same_Some x p h)) (λ no h. inr (has_found test ps p h)) e
 
+-- A run that goes on by an event that may happen is a run.
 pub played : (g : Group) (J : List Record) (a : Actor) (e : Event) → World g J → IsMember g a → MayHappen J a e → World g (play g J a e)
 unfolding play
 played g J a e w member may = (record { member = member; event = may; sends = refl }, w)
@@ -62,6 +63,7 @@ unfolding arrive
 arrived g J test None e w to = w
 arrived g J test (Some p) e w to = played g J p.to (Deliver p) w to (refl, has_found test (sent_in J) p e)
 
+-- So is one in which the newest parcel of a kind comes.
 pub came : (g : Group) (kind : ℕ) (from to : Actor) (J : List Record) → World g J → ToMember g (newest kind from to J) → World g (come g kind from to J)
 unfolding come
 came g kind from to J w member = arrived g J (is_of kind from to) (newest kind from to J) refl w member

@@ -34,7 +34,7 @@ use Rattle.nz_machine.specs.declared.event.Event.TheVariants.{Alarm, Crash, Rest
 use Rattle.nz_machine.specs.declared.event.Record.{Record}
 use Rattle.nz_msg.specs.declared.message.Message.TheVariants as messages
 use Rattle.nz_msg.specs.declared.message.Path.TheVariants.{Fast}
-use Rattle.nz_machine.specs.declared.data.Reported.{Reported}
+use Rattle.nz_machine.specs.declared.data.CollectedReport.{CollectedReport}
 use Rattle.nz_machine.specs.rules.Step.{envelope_for, parcel}
 use Rattle.nz_machine.specs.runs.World.{state_after, World}
 use Rattle.nz_machine.specs.runs.History.{source, history}
@@ -56,7 +56,7 @@ asked = come group 10 (Replica 1) (Replica 0) alarmed
 unfoldable begun : List Record
 begun = come group 11 (Replica 0) (Replica 1) asked
 
--- r2 is late: r1 leads view 1 already, and tells it so.
+-- r2 is late: r1 leads view 1 already, and sends it a start-view.
 unfoldable late : List Record
 late = come group 11 (Replica 2) (Replica 1) (come group 10 (Replica 1) (Replica 2) begun)
 
@@ -81,7 +81,7 @@ record IsAsWorked : Type 0 where
     log = record { entries = first_entry ∷ []; synced = 1 };
     results = Done ∷ [];
     quiet = 0;
-    changes = (record { vector = 0 ∷ 0 ∷ 0 ∷ []; change = record { sender = 0; last = 0; synced = 1; commit = 0; log = first_entry ∷ [] } }) ∷ [];
+    reports = (record { vector = 0 ∷ 0 ∷ 0 ∷ []; report = record { sender = 0; last = 0; synced = 1; commit = 0; log = first_entry ∷ [] } }) ∷ [];
   }
   waiting : (replica_at group 0 begun).status ≡ ViewChange
   follower : replica_at group 2 ended ≡ record holding { view = 1; last = 1; log = record { entries = first_entry ∷ []; synced = 1 }; quiet = 0 }
@@ -147,8 +147,8 @@ unfoldable rejoined : List Record
 rejoined = come group 18 (Replica 1) (Replica 0) (come group 17 (Replica 0) (Replica 1) viewed)
 
 -- r0's report.
-abbrev report : Reported
-report = record { vector = 0 ∷ 0 ∷ 0 ∷ []; change = record { sender = 0; last = 0; synced = 1; commit = 0; log = first_entry ∷ [] } }
+abbrev report : CollectedReport
+report = record { vector = 0 ∷ 0 ∷ 0 ∷ []; report = record { sender = 0; last = 0; synced = 1; commit = 0; log = first_entry ∷ [] } }
 
 -- An instance of what is said of views: the first incarnation of r0 reported for view 1, so the second one rejoins in
 -- view 1 or above; and of prefixes: what was accepted in view 0 is a prefix of the log that view 1 starts with.
@@ -188,7 +188,7 @@ instance_of_laws = record {
       answer = Done;
       path = Fast;
       brought = parcel (Proxy 0) (Client 0, messages.Answer (record { num = 1; answer = Done; path = Fast }));
-      told = inl refl;
+      accepted_there = inl refl;
       event = refl;
       prefix = refl;
     };

@@ -15,7 +15,7 @@ use Rattle.nz_store.specs.Reading.{command_of, command_at}
 use Rattle.nz_store.specs.Sequence.{apply_bytes, replies_from}
 use Rattle.nz_machine.specs.declared.data.Phase.TheVariants as phases
 use Rattle.nz_machine.specs.declared.data.Rejoin.{Rejoin}
-use Rattle.nz_machine.specs.declared.data.Reported.{Reported}
+use Rattle.nz_machine.specs.declared.data.CollectedReport.{CollectedReport}
 use Rattle.nz_machine.specs.rules.State.{ReplicaData}
 use Rattle.nz_machine.specs.rules.Replicas.{first_replica, crashed_replica}
 use Rattle.nz_machine.specs.rules.Requests.{request_rule}
@@ -41,8 +41,8 @@ abbrev changing : ReplicaData
 changing = record normal { status = ViewChange; view = 1 }
 
 -- A report for view 1 from a replica in its first incarnation.
-abbrev reported : ℕ → Reported
-reported sender = record { vector = 0 ∷ 0 ∷ 0 ∷ []; change = record { sender = sender; last = 0; synced = 0; commit = 0; log = [] } }
+abbrev reported : ℕ → CollectedReport
+reported sender = record { vector = 0 ∷ 0 ∷ 0 ∷ []; report = record { sender = sender; last = 0; synced = 0; commit = 0; log = [] } }
 
 abbrev report : List ℕ → Message
 report vector = messages.ViewChange (record { view = 1; last = 0; vector = vector; synced = 0; commit = 0; entries = [] })
@@ -61,16 +61,16 @@ at_first = rejoin_of (restarted_replica 1 5)
 
 record Views : Type 0 where
   -- With two reports beside the own one, as is left when a merged log had no room, no view begins.
-  exactly : replica_message 1 1 (record changing { changes = reported 0 ∷ reported 2 ∷ [] }) (Replica 0) (report (0 ∷ 0 ∷ 0 ∷ []))
-      ≡ (record changing { changes = reported 2 ∷ reported 0 ∷ [] }, [])
+  exactly : replica_message 1 1 (record changing { reports = reported 0 ∷ reported 2 ∷ [] }) (Replica 0) (report (0 ∷ 0 ∷ 0 ∷ []))
+      ≡ (record changing { reports = reported 2 ∷ reported 0 ∷ [] }, [])
   -- A report that the merged vector makes stray goes, and then one is too few no more: the view begins from the new
   -- one.
-  purged : (replica_message 1 1 (record changing { changes = reported 2 ∷ [] }) (Replica 0) (report (0 ∷ 0 ∷ 1 ∷ []))).0.changes
-      ≡ (record { vector = 0 ∷ 0 ∷ 1 ∷ []; change = record { sender = 0; last = 0; synced = 0; commit = 0; log = [] } }) ∷ []
-  -- It goes in normal operation too; the sender is told that the view has begun.
-  purged_in_normal : replica_message 1 1 (record changing { status = Normal; last = 1; changes = reported 2 ∷ [] }) (Replica 0) (report (0 ∷ 0 ∷ 1 ∷ []))
+  purged : (replica_message 1 1 (record changing { reports = reported 2 ∷ [] }) (Replica 0) (report (0 ∷ 0 ∷ 1 ∷ []))).0.reports
+      ≡ (record { vector = 0 ∷ 0 ∷ 1 ∷ []; report = record { sender = 0; last = 0; synced = 0; commit = 0; log = [] } }) ∷ []
+  -- It goes in normal operation too; the sender gets the start-view.
+  purged_in_normal : replica_message 1 1 (record changing { status = Normal; last = 1; reports = reported 2 ∷ [] }) (Replica 0) (report (0 ∷ 0 ∷ 1 ∷ []))
       ≡ (
-        record changing { status = Normal; last = 1; vector = 0 ∷ 0 ∷ 1 ∷ []; changes = [] },
+        record changing { status = Normal; last = 1; vector = 0 ∷ 0 ∷ 1 ∷ []; reports = [] },
         (Replica 0, messages.StartView (record { view = 1; vector = 0 ∷ 0 ∷ 1 ∷ []; commit = 0; entries = [] })) ∷ [],
       )
   -- A stray report changes nothing.
@@ -87,10 +87,10 @@ record Views : Type 0 where
         log = record { entries = entry 1 ∷ entry 2 ∷ entry 3 ∷ []; synced = 3 };
         commit = 3;
         results = Absent ∷ Absent ∷ Absent ∷ [];
-        changes =
+        reports =
             (record {
               vector = 0 ∷ 0 ∷ 0 ∷ [];
-              change = record { sender = 0; last = 0; synced = 3; commit = 3; log = entry 1 ∷ entry 2 ∷ entry 3 ∷ [] };
+              report = record { sender = 0; last = 0; synced = 3; commit = 3; log = entry 1 ∷ entry 2 ∷ entry 3 ∷ [] };
             }) ∷ [];
       }
   -- Acknowledgements of an earlier view do not count.
@@ -140,7 +140,7 @@ record Views : Type 0 where
     ack = 1 ∷ 1 ∷ 1 ∷ [];
     quiet = 9;
     since = 9;
-    changes = reported 0 ∷ [];
+    reports = reported 0 ∷ [];
   }) (Replica 0) (messages.ViewAsk (record { view = 4 }))
       ≡ (
         record changing {

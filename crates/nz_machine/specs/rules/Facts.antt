@@ -15,7 +15,7 @@ use Rattle.nz_log.specs.Synced.{Log, IsSound}
 use Rattle.nz_msg.specs.Fields.{key, command, answer}
 use Rattle.nz_machine.specs.declared.data.Origin.{Origin}
 use Rattle.nz_machine.specs.declared.data.Status.{Status}
-use Rattle.nz_machine.specs.declared.data.Reported.{Reported}
+use Rattle.nz_machine.specs.declared.data.CollectedReport.{CollectedReport}
 use Rattle.nz_machine.specs.declared.data.ToldView.{ToldView}
 use Rattle.nz_machine.specs.declared.data.Rejoin.{Rejoin}
 use Rattle.nz_machine.specs.rules.State.{ReplicaData}
@@ -51,14 +51,14 @@ pub record IsCarried (list : List Entry) : Type 0 where
   pub few : length list ≤ MAX_ENTRIES
 
 -- A report that another replica of the cluster sent: its log has what the report calls synced and committed.
-pub record FitsReport (f me : ℕ) (r : Reported) : Type 0 where
-  pub member : r.change.sender < replica_count f
-  pub other : IsFalse (r.change.sender == me)
+pub record FitsReport (f me : ℕ) (r : CollectedReport) : Type 0 where
+  pub member : r.report.sender < replica_count f
+  pub other : IsFalse (r.report.sender == me)
   pub vector : AreCounters f r.vector
-  pub last : r.change.last ≤ MAX_VIEW
-  pub entries : IsCarried r.change.log
-  pub synced : r.change.synced ≤ length r.change.log
-  pub commit : r.change.commit ≤ length r.change.log
+  pub last : r.report.last ≤ MAX_VIEW
+  pub entries : IsCarried r.report.log
+  pub synced : r.report.synced ≤ length r.report.log
+  pub commit : r.report.commit ≤ length r.report.log
 
 -- A view that a replica of the cluster told.
 pub record FitsTold (f : ℕ) (t : ToldView) : Type 0 where
@@ -109,9 +109,9 @@ pub record AreExecuted (f me : ℕ) (mode : Status) (view : ℕ) (log : Log) (re
   pub forgotten : IsFalse (is_up mode) → log.entries ≡ []
 
 -- What is collected to begin a view: reports of different replicas.
-pub record AreReports (f me : ℕ) (collected : List Reported) : Type 0 where
+pub record AreReports (f me : ℕ) (collected : List CollectedReport) : Type 0 where
   pub each : AllByRecursion (FitsReport f me) collected
-  pub own_senders : HaveOwnSenders (map (λ r. r.change) collected)
+  pub own_senders : HaveOwnSenders (map (λ r. r.report) collected)
 
 -- What is collected to rejoin: of different replicas.
 pub record IsRejoin (f : ℕ) (r : Rejoin) : Type 0 where
@@ -131,7 +131,7 @@ pub record HasFacts (f me : ℕ) (s : ReplicaData) : Type 0 where
   pub commit : s.commit ≤ s.log.synced
   pub tables : AreTables f s.vector s.ack s.origin
   pub executed : AreExecuted f me s.status s.view s.log s.results s.ack
-  pub reports : AreReports f me s.changes
+  pub reports : AreReports f me s.reports
   pub rejoin : IsRejoin f s.rejoin
 
 -- What log, early and late have while keys of a log modification are taken: early keys need not be above the

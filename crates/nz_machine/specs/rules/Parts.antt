@@ -22,7 +22,7 @@ data_of p = record {
   ack = p.ack.items;
   quiet = p.quiet;
   since = p.since;
-  changes = p.changes.items;
+  reports = p.reports.items;
   rejoin = p.rejoin;
 }
 
@@ -36,7 +36,7 @@ ArePartsKept p = IsKeptReplica p.cluster p.me (data_of p) p.store
 
 -- Nothing waits, no request's origin is known, and nothing was reported or collected.
 abbrev pub without_waiting : ReplicaModel → ReplicaModel
-without_waiting m = record m { state = record m.state { early = []; late = []; origin = []; ack = replicate (replica_count m.f) 0; changes = [] } }
+without_waiting m = record m { state = record m.state { early = []; late = []; origin = []; ack = replicate (replica_count m.f) 0; reports = [] } }
 
 -- One more tick is counted. At the end of a period the count begins anew.
 abbrev pub since_counted : ℕ → ReplicaData → ReplicaData

@@ -147,7 +147,7 @@ first_replica f = record {
   ack = replicate (replica_count f) 0;
   quiet = 0;
   since = 0;
-  changes = [];
+  reports = [];
   rejoin = record { nonce = 0; phase = phases.Vectors; claim = 0; wanted = 0; tellers = []; tells = [] };
 }
 

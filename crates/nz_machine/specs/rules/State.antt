@@ -12,7 +12,7 @@ use Rattle.nz_log.specs.Synced.{Log}
 use Rattle.nz_machine.specs.declared.data.Status.{Status}
 use Rattle.nz_machine.specs.declared.data.Origin.{Origin}
 use Rattle.nz_machine.specs.declared.data.Attempt.{Attempt}
-use Rattle.nz_machine.specs.declared.data.Reported.{Reported}
+use Rattle.nz_machine.specs.declared.data.CollectedReport.{CollectedReport}
 use Rattle.nz_machine.specs.declared.data.Rejoin.{Rejoin}
 use Rattle.nz_machine.specs.declared.reply.Reply.{Reply}
 
@@ -36,7 +36,7 @@ pub record ReplicaData : Type 0 where
   pub ack : List ℕ
   pub quiet : ℕ
   pub since : ℕ
-  pub changes : List Reported
+  pub reports : List CollectedReport
   pub rejoin : Rejoin
 
 -- What a proxy knows of a request: the replies so far, or what it decided, and how.

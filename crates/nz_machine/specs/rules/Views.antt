@@ -12,7 +12,7 @@ use Rattle.nz_machine.specs.rules.Replicas.{is_up, leader, leads, to_others, to_
 
 -- The state in a view change: nothing is collected yet, and both timers start anew.
 abbrev pub in_view_change : ReplicaData → ℕ → ReplicaData
-in_view_change s view = record s { status = ViewChange; view = view; changes = []; since = 0; quiet = 0 }
+in_view_change s view = record s { status = ViewChange; view = view; reports = []; since = 0; quiet = 0 }
 
 -- The others are asked to enter the view.
 abbrev pub view_ask_message : ReplicaData → Message
@@ -62,7 +62,7 @@ change_timer f me s =
 
 -- ---- the rules
 
--- The replica is told that the leader is lost.
+-- The replica learns that the leader is lost.
 unfoldable pub alarm_rule : ℕ → ℕ → ReplicaData → ReplicaData × List Out
 alarm_rule f me s = if is_up s.status then enter_next f me s else (s, [])
 

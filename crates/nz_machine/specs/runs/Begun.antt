@@ -7,7 +7,7 @@ use Rattle.nz_msg.specs.declared.message.Message.TheVariants as messages
 use Rattle.nz_machine.specs.declared.event.Parcel.{Parcel}
 use Rattle.nz_machine.specs.declared.event.Record.{Record}
 use Rattle.nz_machine.specs.rules.State.{Group}
-use Rattle.nz_machine.specs.declared.data.Reported.{Reported}
+use Rattle.nz_machine.specs.declared.data.CollectedReport.{CollectedReport}
 use Rattle.nz_machine.specs.rules.Step.{parcel}
 use Rattle.nz_machine.specs.runs.World.{Has}
 use Rattle.nz_machine.specs.runs.History.{source}
@@ -35,29 +35,29 @@ start g v (r ∷ J) = earlier_or (start g v J) (if begins g v (r ∷ J) then Som
 -- ---- from whose reports
 
 -- The reports of others that the view began from, at the moment when it begins: what was collected stays.
-abbrev pub reports_used : Group → ℕ → List Record → List Reported
-reports_used g v B = (leader_at g v B).changes
+abbrev pub reports_used : Group → ℕ → List Record → List CollectedReport
+reports_used g v B = (leader_at g v B).reports
 
 -- The parcel that brought one of them.
-abbrev pub report_parcel : Group → ℕ → Reported → Parcel
+abbrev pub report_parcel : Group → ℕ → CollectedReport → Parcel
 report_parcel g v r =
-    parcel (Replica r.change.sender) (
+    parcel (Replica r.report.sender) (
       Replica (leader_of g.f v),
       messages.ViewChange (record {
         view = v;
-        last = r.change.last;
+        last = r.report.last;
         vector = r.vector;
-        synced = r.change.synced;
-        commit = r.change.commit;
-        entries = r.change.log;
+        synced = r.report.synced;
+        commit = r.report.commit;
+        entries = r.report.log;
       }),
     )
 
 -- The report of another replica, which it sent at the moment S.
 pub record IsReported (g : Group) (v : ℕ) (B : List Record) (m : ℕ) (S : List Record) : Type 0 where
-  pub report : Reported
+  pub report : CollectedReport
   pub used : Has (reports_used g v B) report
-  pub sender : report.change.sender ≡ m
+  pub sender : report.report.sender ≡ m
   pub source : source (report_parcel g v report) B ≡ Some S
 
 -- The view that begins at B begins from a report that the replica made at S. The leader's own is of that moment.

@@ -11,7 +11,7 @@ use Rattle.nz_machine.specs.rules.Step.{node_step}
 use Rattle.nz_machine.specs.runs.Steps.{of_actor}
 use Rattle.nz_machine.specs.runs.World.{state_after, sent_in, Has, IsGroup, IsMember, Restarts}
 
--- What a node can be told: a clock reads at most the greatest reading, and a nonce has 64 bits.
+-- What can come to a node: a clock reads at most the greatest reading, and a nonce has 64 bits.
 abbrev pub IsItem : Event → Type 0
 IsItem (Tick clock) = clock ≤ MAX_CLOCK
 IsItem (Restart nonce) = nonce < 2 ^ 64

@@ -36,7 +36,7 @@ incarnation g m (r ∷ J) = let before = incarnation g m J in if comes_back g m 
 abbrev pub counter_at : Group → ℕ → ℕ → List Record → ℕ
 counter_at g x m K = slice_index (replica_at g x K).vector m
 
--- Each replica's own counter tells its completed incarnations apart.
+-- Each replica's own counter differs between its completed incarnations.
 abbrev pub own_counter : Group → ℕ → List Record → ℕ
 own_counter g m K = counter_at g m m K
 

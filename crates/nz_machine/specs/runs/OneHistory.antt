@@ -63,7 +63,7 @@ pub record Accepts (g : Group) (P : List Entry) (r : Record) (J : List Record) :
   pub answer : Answer
   pub path : Path
   pub brought : Parcel
-  pub told : Has (client_events g r.actor r J) (Accepted id answer path)
+  pub accepted_there : Has (client_events g r.actor r J) (Accepted id answer path)
   pub event : r.event ≡ Deliver brought
   pub prefix : accepted_prefix g id brought J ≡ Some P
 

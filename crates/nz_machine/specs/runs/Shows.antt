@@ -105,10 +105,10 @@ pub record ShowsFetch (f me : ℕ) (heard : Heard) (s : ReplicaData) (to : Actor
   pub receiver : IsOther f me to
   pub to_leader : to ≡ Replica (leader_of f s.view)
   pub view : b.view ≡ s.view
-  pub told : LogModBody
-  pub hears : heard ≡ Some (Replica (leader_of f s.view), messages.LogMod told)
+  pub log_mod : LogModBody
+  pub hears : heard ≡ Some (Replica (leader_of f s.view), messages.LogMod log_mod)
   pub keys : List Key
-  pub rest : IsRest keys told.keys
+  pub rest : IsRest keys log_mod.keys
   pub read : b.ids ≡ filter (λ id. not (is_held s id)) (map id_of keys)
   pub some : 1 ≤ length b.ids
 
@@ -123,7 +123,7 @@ pub record ShowsFetchReply (f me : ℕ) (heard : Heard) (s : ReplicaData) (to : 
   pub receiver : to ≡ Replica asker
   pub read : b.entries ≡ filter (is_asked ask.ids) s.log.entries
 
--- A sync report tells the leader how far the follower's log is synced.
+-- A sync report says how far the follower's log is synced.
 pub record ShowsReport (f me : ℕ) (s : ReplicaData) (to : Actor) (b : SyncReportBody) : Type 0 where
   pub normal : is_normal s.status ≡ true
   pub follows : leads f me s ≡ false

@@ -7,16 +7,16 @@ ghost use Rattle.nz_msg.specs.Messages.{view_change};
 ghost use Rattle.nz_machine.specs.rules.Does.{IsFromOther};
 ghost use Rattle.nz_machine.specs.rules.Facts.{IsCarried};
 ghost use Rattle.nz_machine.specs.rules.Begins as begins;
-ghost use Rattle.nz_machine.specs.rules.Begins.{with_report, without_strays, changes_of, after_begin};
+ghost use Rattle.nz_machine.specs.rules.Begins.{with_report, without_strays, with_own_report, after_begin};
 
 use super::super::adopting::execute_all;
-use super::super::data::{Reported, Status};
+use super::super::data::{CollectedReport, Status};
 use super::super::reports::{
-    all_changes, clear_reports, drop_stray_reports, greatest_commit, replace_report,
+    all_reports, clear_reports, drop_stray_reports, greatest_commit, replace_report,
 };
 use super::{ReplicaState, forget};
 use nz_base::{EntryList, MAX_ENTRIES, NoMemory};
-use nz_merge::{Change, ViewChanges, merge};
+use nz_merge::{Report, Reports, merge};
 use nz_msg::ViewChangeBody;
 use std::mem;
 
@@ -25,7 +25,7 @@ impl ReplicaState {
     pub fn drop_strays(&mut self)
         ensures { self.new ≡ record self.old { state = without_strays self.old.state } }
     {
-        drop_stray_reports(&mut self.parts.changes, &self.parts.vector);
+        drop_stray_reports(&mut self.parts.reports, &self.parts.vector);
     }
 
     /// Collects the report in place of an earlier one of its sender. Its log is taken out of the body. Gives how many
@@ -34,37 +34,37 @@ impl ReplicaState {
         requires from { IsFromOther self.old (Replica sender) body.old.vector }
         requires fits { view_change.fits body.old }
         ensures state { OnOk result (self.new ≡ record self.old { state = with_report self.old.state sender body.old }) }
-        ensures count { IfOk result (λ count. count ≡ length self.new.state.changes) }
+        ensures count { IfOk result (λ count. count ≡ length self.new.state.reports) }
     {
-        let change = Change {
+        let report = Report {
             sender,
             last: body.last,
             synced: body.synced,
             commit: body.commit,
             log: mem::replace(&mut body.entries, EntryList::new(self.parts.alloc)),
         };
-        let reported = Reported {
+        let reported = CollectedReport {
             vector: body.vector,
-            change,
+            report,
         };
-        replace_report(&mut self.parts.changes, reported)?;
-        Ok(self.parts.changes.len())
+        replace_report(&mut self.parts.reports, reported)?;
+        Ok(self.parts.reports.len())
     }
 
     /// The reports that the view begins from: the replica's own, and the collected ones.
-    fn changes(&self) -> Result<ViewChanges, NoMemory>
-        ensures value { IfOk result (λ changes. changes ≡ changes_of self.now.me self.now.state) }
+    fn reports(&self) -> Result<Reports, NoMemory>
+        ensures value { IfOk result (λ reports. reports ≡ with_own_report self.now.me self.now.state) }
         ensures fit { IfOk result AreFit }
     {
-        let own = Change {
+        let own = Report {
             sender: self.parts.me,
             last: self.parts.last,
             synced: self.parts.held.log.synced(),
             commit: self.parts.commit,
             log: self.parts.held.log.entries()?,
         };
-        let changes = all_changes(self.parts.alloc, own, &self.parts.changes)?;
-        Ok(changes)
+        let reports = all_reports(self.parts.alloc, own, &self.parts.reports)?;
+        Ok(reports)
     }
 
     /// The view begins with the log, all of it executed, of which this many entries are committed if it has them.
@@ -95,14 +95,14 @@ impl ReplicaState {
     /// The leader begins its view with the merged log. Whether a log has room for it.
     pub fn begin_view(&mut self) -> Result<bool, NoMemory>
         ensures state { OnOk result (self.new ≡ record self.old { state = (begins.begin self.old.f self.old.me self.old.state).0 }) }
-        ensures begun { IfOk result (λ begun. begun ≡ not (nat_lt MAX_ENTRIES (length (merged self.old.f (changes_of self.old.me self.old.state))))) }
+        ensures begun { IfOk result (λ begun. begun ≡ not (nat_lt MAX_ENTRIES (length (merged self.old.f (with_own_report self.old.me self.old.state))))) }
     {
-        let changes = self.changes()?;
-        let log = merge(self.parts.alloc, self.parts.cluster, &changes)?;
+        let reports = self.reports()?;
+        let log = merge(self.parts.alloc, self.parts.cluster, &reports)?;
         if log.len() > MAX_ENTRIES {
             return Ok(false);
         }
-        self.begin_with(log, greatest_commit(changes.as_slice()))?;
+        self.begin_with(log, greatest_commit(reports.as_slice()))?;
         Ok(true)
     }
 }

@@ -18,10 +18,10 @@ use nz_base::{EntryList, MAX_VIEW, NoMemory, VIEW_TIMEOUT_TICKS};
 
 impl ReplicaState {
     /// How many reports the leader of its view holds to begin it.
-    pub fn reports(&self) -> usize
-        ensures { result ≡ length self.now.state.changes }
+    pub fn report_count(&self) -> usize
+        ensures { result ≡ length self.now.state.reports }
     {
-        self.parts.changes.len()
+        self.parts.reports.len()
     }
 
     /// Whether there is a view after this one.
@@ -70,7 +70,7 @@ impl ReplicaState {
     {
         self.parts.status = Status::ViewChange;
         self.parts.view = view;
-        self.parts.changes = Vec::new(self.parts.alloc);
+        self.parts.reports = Vec::new(self.parts.alloc);
         self.parts.since = 0;
         self.parts.quiet = 0;
     }

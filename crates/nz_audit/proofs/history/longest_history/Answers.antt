@@ -34,7 +34,7 @@ returns-in-Some c =
     let j = c.args.journal.now in
     let b = c.in-Some.best in
     let all = all_traced j c.args.accepted.items in
-    let told = c.requires.accepted.history in
+    let known = c.requires.accepted.history in
     let h : IsBest j all b = subst (IsBestIfAny j all) c.in-Some.is c.in_ok-weigh_in_rounds.ensures.best in
-    let whole = told.longest ∙ first_of_all j b (length (run_in j)) all told.places h in
+    let whole = known.longest ∙ first_of_all j b (length (run_in j)) all known.places h in
     subst (λ (es : List Entry). IfOk c.execute_prefix.result (λ x. x ≡ executed_entries es)) (sym whole) c.execute_prefix.ensures

@@ -13,9 +13,9 @@ use Rattle.nz_check.proofs.Applied.{first_test, sent_test, unsent_test, reach_te
 use Rattle.nz_check.proofs.Applied.{repeats, is_unsent, lacks_lines, is_early, differs, fits}
 use Rattle.nz_check.proofs.entries.take.Goals as goal
 
-sent_is_told : (E F : List ClientEvent) (command bytes : List ℕ) (place : ℕ) → F ≡ E → bytes ≡ command
+sent_is_same : (E F : List ClientEvent) (command bytes : List ℕ) (place : ℕ) → F ≡ E → bytes ≡ command
     → is_sent_at E place command ≡ is_sent_at F place bytes
-sent_is_told E F command bytes place same spelled =
+sent_is_same E F command bytes place same spelled =
     ap (λ (l : List ClientEvent). is_sent_at l place command) (sym same) ∙ ap (is_sent_at F place) (sym spelled)
 
 pub returns-then-not-is_first : goal.returns-then-not-is_first
@@ -34,7 +34,8 @@ returns-then-not-sends_command c = is_unsent c.args.printed.now c.args.place c.a
     (first_test c.args.printed.now c.args.place c.args.entry.now c.requires.entry (get id_eq c.args.places.now) true c.requires.places
     (ap (λ (o : Option ℕ). option_eq nat_eq o (Some c.args.place)) (sym c.place_of.ensures) ∙ sym c.eq-is_first.ensures ∙ c.if-not-is_first.false))
     (sym (sent_test c.args.printed.now c.args.place c.args.entry.now c.requires.entry c.args.noted.now c.in-Some.sent c.requires.noted c.in-Some.ensures)
-    ∙ sent_is_told c.args.printed.now.events c.as_slice.result.now c.args.entry.now.command c.as_slice-2.result.now c.in-Some.sent.place c.as_slice.ensures c.as_slice-2.ensures
+    ∙ sent_is_same c.args.printed.now.events c.as_slice.result.now c.args.entry.now.command c.as_slice-2.result.now c.in-Some.sent.place
+    c.as_slice.ensures c.as_slice-2.ensures
     ∙ sym c.sends_command.ensures ∙ c.if-not-sends_command.true)
 
 pub returns-then-lacks_above : goal.returns-then-lacks_above
@@ -42,7 +43,8 @@ returns-then-lacks_above c = lacks_lines c.args.printed.now c.args.place c.args.
     (first_test c.args.printed.now c.args.place c.args.entry.now c.requires.entry (get id_eq c.args.places.now) true c.requires.places
     (ap (λ (o : Option ℕ). option_eq nat_eq o (Some c.args.place)) (sym c.place_of.ensures) ∙ sym c.eq-is_first.ensures ∙ c.if-not-is_first.false))
     (sym (sent_test c.args.printed.now c.args.place c.args.entry.now c.requires.entry c.args.noted.now c.in-Some.sent c.requires.noted c.in-Some.ensures)
-    ∙ sent_is_told c.args.printed.now.events c.as_slice.result.now c.args.entry.now.command c.as_slice-2.result.now c.in-Some.sent.place c.as_slice.ensures c.as_slice-2.ensures
+    ∙ sent_is_same c.args.printed.now.events c.as_slice.result.now c.args.entry.now.command c.as_slice-2.result.now c.in-Some.sent.place
+    c.as_slice.ensures c.as_slice-2.ensures
     ∙ sym c.sends_command.ensures ∙ c.if-not-sends_command.false)
     (sym (open_test c.args.printed.now c.args.place c.args.entry.now c.requires.entry c.args.lacks c.requires.lacks) ∙ sym c.lacks_above.ensures ∙ c.if-lacks_above.true)
 
@@ -51,7 +53,8 @@ returns-then-place-sent c = is_early c.args.printed.now c.args.place c.args.entr
     (first_test c.args.printed.now c.args.place c.args.entry.now c.requires.entry (get id_eq c.args.places.now) true c.requires.places
     (ap (λ (o : Option ℕ). option_eq nat_eq o (Some c.args.place)) (sym c.place_of.ensures) ∙ sym c.eq-is_first.ensures ∙ c.if-not-is_first.false))
     (sym (sent_test c.args.printed.now c.args.place c.args.entry.now c.requires.entry c.args.noted.now c.in-Some.sent c.requires.noted c.in-Some.ensures)
-    ∙ sent_is_told c.args.printed.now.events c.as_slice.result.now c.args.entry.now.command c.as_slice-2.result.now c.in-Some.sent.place c.as_slice.ensures c.as_slice-2.ensures
+    ∙ sent_is_same c.args.printed.now.events c.as_slice.result.now c.args.entry.now.command c.as_slice-2.result.now c.in-Some.sent.place
+    c.as_slice.ensures c.as_slice-2.ensures
     ∙ sym c.sends_command.ensures ∙ c.if-not-sends_command.false)
     (sym (open_test c.args.printed.now c.args.place c.args.entry.now c.requires.entry c.args.lacks c.requires.lacks) ∙ sym c.lacks_above.ensures ∙ c.if-lacks_above.false)
     (sym (reach_test c.args.printed.now c.args.place c.args.entry.now c.requires.entry c.args.noted.now c.in-Some.sent c.requires.noted c.in-Some.ensures) ∙ below_is c.args.place c.in-Some.sent.reach c.if-place-sent.true)
@@ -61,7 +64,8 @@ returns-then-not-same c = differs c.args.printed.now c.args.place c.args.entry.n
     (first_test c.args.printed.now c.args.place c.args.entry.now c.requires.entry (get id_eq c.args.places.now) true c.requires.places
     (ap (λ (o : Option ℕ). option_eq nat_eq o (Some c.args.place)) (sym c.place_of.ensures) ∙ sym c.eq-is_first.ensures ∙ c.if-not-is_first.false))
     (sym (sent_test c.args.printed.now c.args.place c.args.entry.now c.requires.entry c.args.noted.now c.in-Some.sent c.requires.noted c.in-Some.ensures)
-    ∙ sent_is_told c.args.printed.now.events c.as_slice.result.now c.args.entry.now.command c.as_slice-2.result.now c.in-Some.sent.place c.as_slice.ensures c.as_slice-2.ensures
+    ∙ sent_is_same c.args.printed.now.events c.as_slice.result.now c.args.entry.now.command c.as_slice-2.result.now c.in-Some.sent.place
+    c.as_slice.ensures c.as_slice-2.ensures
     ∙ sym c.sends_command.ensures ∙ c.if-not-sends_command.false)
     (sym (open_test c.args.printed.now c.args.place c.args.entry.now c.requires.entry c.args.lacks c.requires.lacks) ∙ sym c.lacks_above.ensures ∙ c.if-lacks_above.false)
     (sym (reach_test c.args.printed.now c.args.place c.args.entry.now c.requires.entry c.args.noted.now c.in-Some.sent c.requires.noted c.in-Some.ensures) ∙ above_is c.args.place c.in-Some.sent.reach c.if-place-sent.false)
@@ -73,7 +77,8 @@ returns c = fits c.args.printed.now c.args.place c.args.entry.now c.requires.ent
     (first_test c.args.printed.now c.args.place c.args.entry.now c.requires.entry (get id_eq c.args.places.now) true c.requires.places
     (ap (λ (o : Option ℕ). option_eq nat_eq o (Some c.args.place)) (sym c.place_of.ensures) ∙ sym c.eq-is_first.ensures ∙ c.if-not-is_first.false))
     (sym (sent_test c.args.printed.now c.args.place c.args.entry.now c.requires.entry c.args.noted.now c.in-Some.sent c.requires.noted c.in-Some.ensures)
-    ∙ sent_is_told c.args.printed.now.events c.as_slice.result.now c.args.entry.now.command c.as_slice-2.result.now c.in-Some.sent.place c.as_slice.ensures c.as_slice-2.ensures
+    ∙ sent_is_same c.args.printed.now.events c.as_slice.result.now c.args.entry.now.command c.as_slice-2.result.now c.in-Some.sent.place
+    c.as_slice.ensures c.as_slice-2.ensures
     ∙ sym c.sends_command.ensures ∙ c.if-not-sends_command.false)
     (sym (open_test c.args.printed.now c.args.place c.args.entry.now c.requires.entry c.args.lacks c.requires.lacks) ∙ sym c.lacks_above.ensures ∙ c.if-lacks_above.false)
     (sym (reach_test c.args.printed.now c.args.place c.args.entry.now c.requires.entry c.args.noted.now c.in-Some.sent c.requires.noted c.in-Some.ensures) ∙ above_is c.args.place c.in-Some.sent.reach c.if-place-sent.false)

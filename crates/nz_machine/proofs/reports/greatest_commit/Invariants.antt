@@ -3,5 +3,5 @@ use Rattle.std.proofs.Common.{◌≡◌, max, map, drop}
 use Rattle.nz_merge.specs.Merged.{greatest}
 use Rattle.nz_machine.proofs.reports.greatest_commit.Given as goal
 
-abbrev pub invariant-loop-change : goal.invariant-loop-change
-invariant-loop-change l = max l.commit (greatest (map (λ c. c.commit) (drop l.change-index l.changes))) ≡ greatest (map (λ c. c.commit) l.changes)
+abbrev pub invariant-loop-report : goal.invariant-loop-report
+invariant-loop-report l = max l.commit (greatest (map (λ c. c.commit) (drop l.report-index l.reports))) ≡ greatest (map (λ c. c.commit) l.reports)

@@ -22,7 +22,8 @@ loop-key-preserved-then-may_follow c =
     c.count_holders.result c.may_follow.result first c.count_holders.ensures c.if-count_holders-least.true
     (subst (λ (log : List Entry). c.may_follow.result
     ≡ (is_above_last (keys_of log) c.in-Some.key.now && not (has_id (keys_of log) (id_of c.in-Some.key.now))))
-    c.as_slice-then-count_holders-least.ensures c.may_follow.ensures) c.if-may_follow.true c.in_ok-copy_entry.ensures c.in_ok-push.ensures.ok c.loop-key.invariant
+    c.as_slice-then-count_holders-least.ensures c.may_follow.ensures) c.if-may_follow.true c.in_ok-copy_entry.ensures c.in_ok-push.ensures.ok
+    c.loop-key.invariant
 
 pub loop-key-preserved : goal.loop-key-preserved
 loop-key-preserved c =
@@ -43,5 +44,5 @@ pub returns : goal.returns
 returns c =
     let none = rest_all deref c.loop-key.key-iterator c.next.new.self c.next.result c.in-None.is c.next.ensures.steps in
     ended _ _ c.loop-key.log _ c.loop-key.key-iterator none c.loop-key.invariant
-    ∙ same_merge _ c.args.cluster c.greatest_last-view.result _ c.args.changes.now
-    (omega (arith, c.from-least.ensures, c.div_ceil.ensures, c.f.ensures.value)) c.as_slice-changes.ensures.value c.greatest_last-view.ensures
+    ∙ same_merge _ c.args.cluster c.greatest_last-view.result _ c.args.reports.now
+    (omega (arith, c.from-least.ensures, c.div_ceil.ensures, c.f.ensures.value)) c.as_slice-reports.ensures.value c.greatest_last-view.ensures

@@ -5,4 +5,4 @@ use Rattle.nz_merge.proofs.Turns.{in_all}
 use Rattle.nz_merge.proofs.new_log.merge.Given as goal
 
 abbrev pub invariant-loop-key : goal.invariant-loop-key
-invariant-loop-key l = in_all l.least (of_view l.view l.changes) l.log l.key-iterator ≡ merged_from l.least (of_view l.view l.changes)
+invariant-loop-key l = in_all l.least (of_view l.view l.reports) l.log l.key-iterator ≡ merged_from l.least (of_view l.view l.reports)

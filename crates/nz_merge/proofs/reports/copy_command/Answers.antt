@@ -10,4 +10,4 @@ returns-in-Some c =
     rw same c.copy.ensures
 
 pub returns-in-None : goal.returns-in-None
-returns-in-None c = rw (command_none c.args.log.now c.args.key (sym (c.in-None.ensures.tells c.requires))) c.from_slice.ensures
+returns-in-None c = rw (command_none c.args.log.now c.args.key (sym (c.in-None.ensures.is_there c.requires))) c.from_slice.ensures

@@ -3,5 +3,5 @@ use Rattle.std.proofs.Common.{◌≡◌, max, map, drop}
 use Rattle.nz_merge.specs.Merged.{greatest}
 use Rattle.nz_merge.proofs.reports.greatest_last.Given as goal
 
-abbrev pub invariant-loop-change : goal.invariant-loop-change
-invariant-loop-change l = max l.most (greatest (map (λ c. c.last) (drop l.change-index l.changes))) ≡ greatest (map (λ c. c.last) l.changes)
+abbrev pub invariant-loop-report : goal.invariant-loop-report
+invariant-loop-report l = max l.most (greatest (map (λ c. c.last) (drop l.report-index l.reports))) ≡ greatest (map (λ c. c.last) l.reports)

@@ -6,10 +6,10 @@ use Rattle.nz_merge.specs.Merged.{IsFit, AreFit, of_view, holders, lowest}
 use Rattle.nz_merge.proofs.Loops.{joined}
 use Rattle.nz_merge.proofs.reports.lowest_holder.Given as goal
 
-abbrev pub invariant-loop-change : goal.invariant-loop-change
-invariant-loop-change l = record {
-  left_fit : AreFit (drop l.change-index l.changes);
+abbrev pub invariant-loop-report : goal.invariant-loop-report
+invariant-loop-report l = record {
+  left_fit : AreFit (drop l.report-index l.reports);
   best_fit : IfSome l.best (λ c. IsFit c.now);
-  best : joined (option_copied l.best) (lowest (holders (of_view l.view (drop l.change-index l.changes)) l.key))
-      ≡ lowest (holders (of_view l.view l.changes) l.key);
+  best : joined (option_copied l.best) (lowest (holders (of_view l.view (drop l.report-index l.reports)) l.key))
+      ≡ lowest (holders (of_view l.view l.reports) l.key);
 }

@@ -14,7 +14,7 @@ returns-in_err-counter c =
     let p = err_from_is_err_and c.from_residual.result c.from_residual.ensures.1 in
     rw (p.1, p.2) (ends (λ _. u32) c.in_err-counter.field-0.0
     (take c.loop-place.place c.loop-place.counters) c.args.size c.loop-place.place c.loop-place.rest
-    (items_at (λ _. u32) [] c.args.size c.args.bytes) c.loop-place-test.true c.in_err-counter.ensures c.loop-place.invariant.told)
+    (items_at (λ _. u32) [] c.args.size c.args.bytes) c.loop-place-test.true c.in_err-counter.ensures c.loop-place.invariant.whole)
 
 pub loop-place-preserved : goal.loop-place-preserved
 loop-place-preserved c =
@@ -24,9 +24,9 @@ loop-place-preserved c =
     let nine : length (slice_set l.counters l.place c.in_ok-counter.counter) ≡ 9 = omega (arith, length-set {A = ℕ}, l.invariant.nine) in
     record {
       nine = nine;
-      told = rw e (goes_on (λ _. u32)
+      whole = rw e (goes_on (λ _. u32)
           (take l.place l.counters) c.args.size l.place l.rest c.in_ok-counter.counter c.in_ok-counter.after
-          (items_at (λ _. u32) [] c.args.size c.args.bytes) c.loop-place-test.true c.in_ok-counter.ensures l.invariant.told);
+          (items_at (λ _. u32) [] c.args.size c.args.bytes) c.loop-place-test.true c.in_ok-counter.ensures l.invariant.whole);
     }
 
 pub returns : goal.returns
@@ -35,4 +35,4 @@ returns c =
     let same : l.place ≡ c.args.size = omega arith in
     subst (λ (n : ℕ). items_at (λ _. u32) [] c.args.size c.args.bytes ≡ Ok (take n l.counters, l.rest)) same
     (is_done (λ _. u32) (take l.place l.counters) c.args.size l.place l.rest
-    (items_at (λ _. u32) [] c.args.size c.args.bytes) c.loop-place-test.false l.invariant.told)
+    (items_at (λ _. u32) [] c.args.size c.args.bytes) c.loop-place-test.false l.invariant.whole)

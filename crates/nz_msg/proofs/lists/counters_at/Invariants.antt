@@ -9,6 +9,6 @@ use Rattle.nz_msg.proofs.lists.counters_at.Given as goal
 abbrev pub invariant-loop-place : goal.invariant-loop-place
 invariant-loop-place l = record {
   nine : length l.counters ≡ 9;
-  told : with_earlier (take l.place l.counters) (items_at (λ _. u32) (take l.place l.counters) (l.size - l.place) l.rest)
+  whole : with_earlier (take l.place l.counters) (items_at (λ _. u32) (take l.place l.counters) (l.size - l.place) l.rest)
       ≡ items_at (λ _. u32) [] l.size l.fn.bytes;
 }

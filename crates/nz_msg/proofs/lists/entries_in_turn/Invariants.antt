@@ -10,6 +10,6 @@ use Rattle.nz_msg.proofs.lists.entries_in_turn.Given as goal
 -- what was read, and what is read of the rest, is what is read of all; and what was read came in turn
 abbrev pub invariant-loop : goal.invariant-loop
 invariant-loop l = record {
-  told : with_earlier l.entries (items_at next_entry l.entries (l.count - l.counter) l.rest) ≡ items_at next_entry [] l.count l.fn.bytes;
+  whole : with_earlier l.entries (items_at next_entry l.entries (l.count - l.counter) l.rest) ≡ items_at next_entry [] l.count l.fn.bytes;
   in_turn : AreInTurn (keys_of l.entries) l.ids;
 }

@@ -14,22 +14,22 @@ returns-in_err-key-clause-fault c =
     let p = err_from_is_err_and c.from_residual-in_err-key.result c.from_residual-in_err-key.ensures.1 in
     rw (p.1, p.2) (ends next_key c.in_err-key.field-0.0 c.loop.keys c.args.count c.loop.counter c.loop.rest
     (items_at next_key [] c.args.count c.args.bytes) c.loop-test.true
-    (next_key_fails (λ (k : Key). k) c.loop.keys c.loop.rest c.in_err-key.field-0.0 c.in_err-key.ensures) c.loop.invariant.told)
+    (next_key_fails (λ (k : Key). k) c.loop.keys c.loop.rest c.in_err-key.field-0.0 c.in_err-key.ensures) c.loop.invariant.whole)
 
 pub loop-preserved : goal.loop-preserved
 loop-preserved c =
     let key = c.in_ok-key.key in
     let turn : comes_in_turn c.loop.ids key ≡ true = sym c.if-not-comes_in_turn.ensures in
     record {
-      told =
+      whole =
           rw c.in_ok-push.ensures.ok (goes_on next_key c.loop.keys c.args.count c.loop.counter c.loop.rest key c.in_ok-key.after
           (items_at next_key [] c.args.count c.args.bytes) c.loop-test.true
           (next_key_read (λ (k : Key). k) c.loop.keys c.loop.rest key c.in_ok-key.after c.in_ok-key.ensures
-          (turn_follows c.loop.keys c.loop.ids key c.loop.invariant.in_turn turn)) c.loop.invariant.told);
+          (turn_follows c.loop.keys c.loop.ids key c.loop.invariant.in_turn turn)) c.loop.invariant.whole);
       in_turn = rw (c.in_ok-push.ensures.ok, c.note.ensures) (in_turn_more c.loop.keys c.loop.ids key c.loop.invariant.in_turn turn);
     }
 
 pub returns-clause-read : goal.returns-clause-read
 returns-clause-read c =
     is_done next_key c.loop.keys c.args.count c.loop.counter c.loop.rest
-    (items_at next_key [] c.args.count c.args.bytes) c.loop-test.false c.loop.invariant.told
+    (items_at next_key [] c.args.count c.args.bytes) c.loop-test.false c.loop.invariant.whole

@@ -9,6 +9,6 @@ use Rattle.nz_msg.proofs.lists.keys_in_turn.Given as goal
 -- what was read, and what is read of the rest, is what is read of all; and what was read came in turn
 abbrev pub invariant-loop : goal.invariant-loop
 invariant-loop l = record {
-  told : with_earlier l.keys (items_at next_key l.keys (l.count - l.counter) l.rest) ≡ items_at next_key [] l.count l.fn.bytes;
+  whole : with_earlier l.keys (items_at next_key l.keys (l.count - l.counter) l.rest) ≡ items_at next_key [] l.count l.fn.bytes;
   in_turn : AreInTurn l.keys l.ids;
 }

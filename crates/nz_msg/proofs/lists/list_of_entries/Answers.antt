@@ -17,15 +17,15 @@ returns-in_err-entry c =
     rw (p.1, p.2) (ends next_entry c.in_err-entry.field-0.0 c.loop.entries c.args.count c.loop.counter c.loop.rest
     (items_at next_entry [] c.args.count c.args.bytes) c.loop-test.true
     (subst (λ (before : List Entry). Fails c.in_err-entry.field-0.0 ((next_entry before).get c.loop.rest))
-    c.as_slice.ensures c.in_err-entry.ensures.value) c.loop.invariant.told)
+    c.as_slice.ensures c.in_err-entry.ensures.value) c.loop.invariant.whole)
 
 pub loop-preserved : goal.loop-preserved
 loop-preserved c = record {
-  told =
+  whole =
       rw c.in_ok-push.ensures.ok (goes_on next_entry c.loop.entries c.args.count c.loop.counter c.loop.rest
       c.in_ok-entry.entry c.in_ok-entry.after (items_at next_entry [] c.args.count c.args.bytes) c.loop-test.true
       (subst (λ (before : List Entry). (next_entry before).get c.loop.rest
-      ≡ Ok (c.in_ok-entry.entry, c.in_ok-entry.after)) c.as_slice.ensures c.in_ok-entry.ensures.value) c.loop.invariant.told);
+      ≡ Ok (c.in_ok-entry.entry, c.in_ok-entry.after)) c.as_slice.ensures c.in_ok-entry.ensures.value) c.loop.invariant.whole);
   noted =
       let next : may_follow (λ (e : Entry). e.key) c.loop.entries c.in_ok-entry.entry.key ≡ true =
       subst (λ (before : List Entry). may_follow (λ (e : Entry). e.key) before c.in_ok-entry.entry.key ≡ true)
@@ -38,4 +38,4 @@ loop-preserved c = record {
 pub returns : goal.returns
 returns c =
     is_done next_entry c.loop.entries c.args.count c.loop.counter c.loop.rest
-    (items_at next_entry [] c.args.count c.args.bytes) c.loop-test.false c.loop.invariant.told
+    (items_at next_entry [] c.args.count c.args.bytes) c.loop-test.false c.loop.invariant.whole

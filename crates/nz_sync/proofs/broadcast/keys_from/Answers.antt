@@ -9,8 +9,8 @@ use Rattle.nz_log.specs.Synced.{Log}
 use Rattle.nz_msg.specs.Fields.{keys}
 use Rattle.nz_machine.specs.rules.Facts.{FitsEntry}
 use Rattle.nz_machine.proofs.lists.EachItem.{all_of_prefix}
-use Rattle.nz_machine.proofs.facts.FitReplicas.{led_log, told_keys_fit}
-use Rattle.nz_sync.proofs.Broadcasts.{next_key, all_told}
+use Rattle.nz_machine.proofs.facts.FitReplicas.{led_log, log_mod_keys_fit}
+use Rattle.nz_sync.proofs.Broadcasts.{next_key, all_taken}
 use Rattle.nz_sync.proofs.broadcast.keys_from.Goals as goal
 
 pub loop-place-preserved : goal.loop-place-preserved
@@ -27,7 +27,7 @@ returns-clause-value c =
     let same = length-map es (λ (e : Entry). e.key) in
     let few = c.show_invariant.ensures.facts.entries.few in
     let stop : c.min-end.result ≡ min (length (keys_of es)) (c.args.start + 64) = omega (arith, long, same, few, c.min-end.ensures, c.saturating_add.ensures) in
-    c.loop-place.invariant ∙ all_told
+    c.loop-place.invariant ∙ all_taken
     (keys_of es) c.args.start c.loop-place.place c.min-end.result stop c.loop-place.auto.place c.loop-place-test.false c.loop-place.auto.place-end
 
 pub returns-clause-fits : goal.returns-clause-fits
@@ -40,9 +40,9 @@ returns-clause-fits c =
     let few = facts.entries.few in
     let stop : c.min-end.result ≡ min (length (keys_of es)) (c.args.start + 64) = omega (arith, long, same, few, c.min-end.ensures, c.saturating_add.ensures) in
     let all =
-    c.loop-place.invariant ∙ all_told
+    c.loop-place.invariant ∙ all_taken
     (keys_of es) c.args.start c.loop-place.place c.min-end.result stop c.loop-place.auto.place c.loop-place-test.false
     c.loop-place.auto.place-end in
     subst (λ (ks : List Key). keys.fits ks) (sym all)
-    (told_keys_fit s c.args.start (led_log c.args.state.now.f c.args.state.now.me s facts)
+    (log_mod_keys_fit s c.args.start (led_log c.args.state.now.f c.args.state.now.me s facts)
     (all_of_prefix FitsEntry es (s.early ++ s.late) facts.entries.arranged.fit))

@@ -21,5 +21,5 @@ returns c =
     IfOk-weaker c.history_by_accepted.result _ _ (λ o known. IfSome_then o known (λ found is.
     with_journal (λ (g : Group) (J : List Record).
     g.f ≡ cluster → World g J → events ≡ events_at g J → AreCores g J cores → found ≡ executed_entries (history g J))
-    (λ journal same w tells given. is journal same given
-    (subst (AreAccepted journal (run_in journal)) (sym c.as_slice.ensures.value) (c.in_ok-accepted.ensures journal w tells))))) c.history_by_accepted.ensures
+    (λ journal same w are_same given. is journal same given
+    (subst (AreAccepted journal (run_in journal)) (sym c.as_slice.ensures.value) (c.in_ok-accepted.ensures journal w are_same))))) c.history_by_accepted.ensures

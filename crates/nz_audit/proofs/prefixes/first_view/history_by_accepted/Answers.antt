@@ -14,9 +14,9 @@ execute-requires c =
     within_log c.longest_in.result log (longest_from [] (prefixes_in log answers)) count (longest_of_log log answers c.longest_in.result count)
 
 pub returns-in_ok-execute-in-Some : goal.returns-in_ok-execute-in-Some
-returns-in_ok-execute-in-Some c = λ journal same cores told.
+returns-in_ok-execute-in-Some c = λ journal same cores are_accepted.
     let log = c.in-Some.log.now.entries in
     let answers = c.args.accepted.now in
     let only = c.in-Some.ensures (group_in journal) (run_in journal) same cores in
     c.in_ok-execute-in-Some.ensures
-    ∙ ap executed_entries (longest_of_log log answers c.longest_in.result c.longest_in.ensures ∙ sym (history_in_log journal answers log told only))
+    ∙ ap executed_entries (longest_of_log log answers c.longest_in.result c.longest_in.ensures ∙ sym (history_in_log journal answers log are_accepted only))

@@ -6,7 +6,7 @@ use Rattle.nz_base.specs.declared.key.Entry.{Entry}
 use Rattle.nz_base.specs.Key.{key_cmp}
 use Rattle.nz_buffers.specs.Buffers.{find_id}
 use Rattle.nz_buffers.proofs.Removing.{found_held}
-use Rattle.nz_buffers.proofs.Keeping.{lookup_is, keys_tell, none_found}
+use Rattle.nz_buffers.proofs.Keeping.{lookup_is, keys_agree, none_found}
 use Rattle.nz_buffers.proofs.early.Early.find.Goals as goal
 
 pub returns-in-Some : goal.returns-in-Some
@@ -14,8 +14,8 @@ returns-in-Some c =
     let i = c.args.id in
     let es = c.self.inside.entries.entries in
     let k = c.in-Some.key.now in
-    let tells = keys_tell i k es c.self.invariant.at c.self.invariant.log.own_ids (sym (c.in-Some.ensures.value ∙ c.self.invariant.found i)) in
-    let is = c.get-in-Some.ensures.value ∙ lookup_is (is_at (key_cmp k)) i es tells ∙ ap (λ (xs : List Entry). find_id xs i) c.self.view_is in
+    let agree = keys_agree i k es c.self.invariant.at c.self.invariant.log.own_ids (sym (c.in-Some.ensures.value ∙ c.self.invariant.found i)) in
+    let is = c.get-in-Some.ensures.value ∙ lookup_is (is_at (key_cmp k)) i es agree ∙ ap (λ (xs : List Entry). find_id xs i) c.self.view_is in
     record { value = is; held = found_held c.get-in-Some.result c.args.self.now i is }
 
 pub returns-in-None : goal.returns-in-None

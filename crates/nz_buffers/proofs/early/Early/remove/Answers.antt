@@ -7,7 +7,7 @@ use Rattle.nz_base.specs.declared.key.Entry.{Entry}
 use Rattle.nz_base.specs.Key.{key_cmp}
 use Rattle.nz_buffers.specs.Buffers.{find_id, without}
 use Rattle.nz_buffers.specs.Keeping.{IsKeptBuffer}
-use Rattle.nz_buffers.proofs.Keeping.{lookup_is, removed_is, keys_tell, kept_removed, none_found, none_without, answer_held}
+use Rattle.nz_buffers.proofs.Keeping.{lookup_is, removed_is, keys_agree, kept_removed, none_found, none_without, answer_held}
 use Rattle.nz_buffers.proofs.early.Early.remove.Goals as goal
 
 pub invariant_of-self : goal.invariant_of-self
@@ -23,13 +23,13 @@ returns-in-Some c =
     let i = c.args.id in
     let es = c.self.inside.entries.entries in
     let k = c.in-Some.key in
-    let tells = keys_tell i k es c.self.invariant.at c.self.invariant.log.own_ids (sym (c.in-Some.ensures.value ∙ c.self.invariant.found i)) in
-    let is = c.remove.ensures.value ∙ lookup_is (is_at (key_cmp k)) i es tells ∙ ap (λ (xs : List Entry). find_id xs i) c.self.view_is in
+    let agree = keys_agree i k es c.self.invariant.at c.self.invariant.log.own_ids (sym (c.in-Some.ensures.value ∙ c.self.invariant.found i)) in
+    let is = c.remove.ensures.value ∙ lookup_is (is_at (key_cmp k)) i es agree ∙ ap (λ (xs : List Entry). find_id xs i) c.self.view_is in
     record {
       value = is;
       held = answer_held c.remove.result c.args.self.now i is;
       rest =
-          ap values_of c.remove.ensures.entries ∙ removed_is (is_at (key_cmp k)) i es tells c.self.invariant.log.own_ids
+          ap values_of c.remove.ensures.entries ∙ removed_is (is_at (key_cmp k)) i es agree c.self.invariant.log.own_ids
           ∙ ap (λ (xs : List Entry). without xs i) c.self.view_is;
     }
 

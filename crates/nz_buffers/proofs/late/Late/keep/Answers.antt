@@ -7,7 +7,7 @@ use Rattle.nz_base.specs.Key.{id_eq, id_of}
 use Rattle.nz_base.specs.Log.{keys_of, has_id}
 use Rattle.nz_buffers.specs.Keeping.{AreByIds}
 use Rattle.nz_buffers.proofs.Removing.{find_none}
-use Rattle.nz_buffers.proofs.Keeping.{lookup_is, ids_tell, by_ids_push}
+use Rattle.nz_buffers.proofs.Keeping.{lookup_is, ids_agree, by_ids_push}
 use Rattle.indexmap.proofs.CallerLemmas.{insert_entry-new}
 use Rattle.std.proofs.lemmas.List.{map-append}
 use Rattle.indexmap.specs.IndexMap.{insert_entry}
@@ -19,7 +19,7 @@ invariant_of-self-2 c =
     let es = c.self.inside.entries.entries in
     let fresh = subst (λ (xs : List Entry). has_id (keys_of xs) (id_of e.key) ≡ false) (sym c.self.view_is) c.requires.fresh in
     let none =
-    lookup_is (id_eq (id_of e.key)) (id_of e.key) es (ids_tell (id_of e.key) es c.self.invariant.at)
+    lookup_is (id_eq (id_of e.key)) (id_of e.key) es (ids_agree (id_of e.key) es c.self.invariant.at)
     ∙ find_none (values_of es) (id_of e.key) fresh in
     let is =
     c.in_ok-insert.ensures.entries ∙ ap (λ (i : Id). insert_entry id_eq es i e) c.id.ensures
@@ -32,7 +32,7 @@ returns-clause-ok c =
     let es = c.self.inside.entries.entries in
     let fresh = subst (λ (xs : List Entry). has_id (keys_of xs) (id_of e.key) ≡ false) (sym c.self.view_is) c.requires.fresh in
     let none =
-    lookup_is (id_eq (id_of e.key)) (id_of e.key) es (ids_tell (id_of e.key) es c.self.invariant.at)
+    lookup_is (id_eq (id_of e.key)) (id_of e.key) es (ids_agree (id_of e.key) es c.self.invariant.at)
     ∙ find_none (values_of es) (id_of e.key) fresh in
     let is =
     c.in_ok-insert.ensures.entries ∙ ap (λ (i : Id). insert_entry id_eq es i e) c.id.ensures

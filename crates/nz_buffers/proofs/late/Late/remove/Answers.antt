@@ -5,7 +5,7 @@ use Rattle.nz_base.specs.declared.key.Entry.{Entry}
 use Rattle.nz_base.specs.Key.{id_eq}
 use Rattle.nz_buffers.specs.Buffers.{find_id, without}
 use Rattle.nz_buffers.specs.Keeping.{AreByIds}
-use Rattle.nz_buffers.proofs.Keeping.{lookup_is, removed_is, ids_tell, by_ids_removed, answer_held}
+use Rattle.nz_buffers.proofs.Keeping.{lookup_is, removed_is, ids_agree, by_ids_removed, answer_held}
 use Rattle.nz_buffers.proofs.late.Late.remove.Goals as goal
 
 pub invariant_of-self : goal.invariant_of-self
@@ -16,12 +16,12 @@ returns c =
     let es = c.self.inside.entries.entries in
     let i = c.args.id in
     let is =
-    c.shift_remove.ensures.value ∙ lookup_is (id_eq i) i es (ids_tell i es c.self.invariant.at)
+    c.shift_remove.ensures.value ∙ lookup_is (id_eq i) i es (ids_agree i es c.self.invariant.at)
     ∙ ap (λ (xs : List Entry). find_id xs i) c.self.view_is in
     record {
       value = is;
       held = answer_held c.shift_remove.result c.args.self.now i is;
       rest =
           ap values_of c.shift_remove.ensures.entries
-          ∙ removed_is (id_eq i) i es (ids_tell i es c.self.invariant.at) c.self.invariant.own ∙ ap (λ (xs : List Entry). without xs i) c.self.view_is;
+          ∙ removed_is (id_eq i) i es (ids_agree i es c.self.invariant.at) c.self.invariant.own ∙ ap (λ (xs : List Entry). without xs i) c.self.view_is;
     }

@@ -5,7 +5,7 @@ use Rattle.std.proofs.lemmas.Bool.{eqb-true, eqb-false}
 use Rattle.nz_lane.specs.declared.item.ItemRefusal.TheVariants.{Cut}
 use Rattle.nz_lane.specs.Reading.{wanted}
 use Rattle.nz_lane.specs.Streams.{Held, ahead}
-use Rattle.nz_lane.specs.Stops.{IsToldBy}
+use Rattle.nz_lane.specs.Stops.{IsSettledBy}
 use Rattle.nz_lane.proofs.Held.{Refuses, taken_by, at_end, cut_ahead, taken_wanted, taken_item, taken_size, taken_ahead, taken_refusal}
 use Rattle.nz_lane.proofs.lane_reader.LaneReader.next.Goals as goal
 
@@ -20,12 +20,12 @@ returns-then-len-size-clause-refused g c =
     let left = g.S.Source.left c.fill.new.source in
     let bytes = c.self.inside.held.items in
     let size : c.wanted-size.result ≡ wanted bytes = c.wanted-size.ensures.value ∙ ap wanted c.as_slice.ensures in
-    let told = subst (λ (h : Held). IsToldBy h left) (sym c.self.view_is) c.in_ok-fill.ensures.whole in
+    let settled = subst (λ (h : Held). IsSettledBy h left) (sym c.self.view_is) c.in_ok-fill.ensures.whole in
     let some : 0 < length bytes = omega (arith, eqb-false (length bytes) 0 (sym c.is_empty.ensures ∙ c.if-is_empty.false)) in
     let few : length bytes < wanted bytes = omega (arith, c.if-len-size.true, c.len.ensures.value, size) in (
       ap (λ (h : Held). h.place) c.self.view_is ∙ c.in_ok-fill.ensures.place,
       subst (λ (o : Option (List ℕ)). IfSome o (Refuses Cut)) (sym (c.in_ok-fill.ensures.ahead ∙ ap (λ (h : Held). ahead h left) (sym c.self.view_is)))
-          (cut_ahead (record { bytes = bytes; place = c.self.inside.place }) left some few told),
+          (cut_ahead (record { bytes = bytes; place = c.self.inside.place }) left some few settled),
     )
 
 pub item_of-requires : goal.item_of-requires

@@ -6,7 +6,7 @@ use Rattle.std.proofs.lemmas.Bool.Decides.{nat_tests}
 use Rattle.nz_base.specs.Cluster.{replica_count}
 use Rattle.nz_base.specs.declared.actor.Actor.TheVariants.{Replica}
 use Rattle.nz_base.specs.declared.key.Entry.{Entry}
-use Rattle.nz_machine.specs.declared.data.Reported.{Reported}
+use Rattle.nz_machine.specs.declared.data.CollectedReport.{CollectedReport}
 use Rattle.nz_machine.specs.rules.State.{ReplicaData}
 use Rattle.nz_machine.specs.rules.Facts.{ReplicaModel}
 use Rattle.nz_machine.specs.rules.Step.{is_in_cluster}
@@ -28,10 +28,10 @@ invariant_of-self-2 c =
     let other : IsFalse (sender == c.args.self.now.me) = ne_eqb sender c.args.self.now.me (λ e. c.requires.from.other (ap Replica e)) in
     let fit = report_fits c.self.inside.parts.cluster c.self.inside.parts.me sender b
     member (subst (λ (v : ReplicaModel). IsFalse (sender == v.me)) (sym c.self.view_is) other) c.requires.fits counters in
-    kept_collect c.self.inside.parts.cluster c.self.inside.parts.me s c.self.inside.parts.store sender b c.replace_report.new.changes.items c.self.invariant fit
+    kept_collect c.self.inside.parts.cluster c.self.inside.parts.me s c.self.inside.parts.store sender b c.replace_report.new.reports.items c.self.invariant fit
     (c.in_ok-replace_report.ensures.ok
-    ∙ ap (λ (es : List Entry). filter (λ (r : Reported). not (r.change.sender == sender)) s.changes
+    ∙ ap (λ (es : List Entry). filter (λ (r : CollectedReport). not (r.report.sender == sender)) s.reports
     ++ record {
       vector = b.vector;
-      change = record { sender = sender; last = b.last; synced = b.synced; commit = b.commit; log = es };
+      report = record { sender = sender; last = b.last; synced = b.synced; commit = b.commit; log = es };
     } ∷ []) c.replace.ensures.value)

@@ -21,7 +21,7 @@ invariant_of-result c =
       origin = c.new-4.ensures.empty i;
       quiet = 0;
       since = 0;
-      changes = c.new-5.ensures.items i;
+      reports = c.new-5.ensures.items i;
       rejoin = c.first_rejoin.ensures i;
       ack = (c.in_ok-ack.ensures.items_if_clones_equal (λ y h. h) ∙ ap (λ n. replicate n 0) c.n.ensures) i;
     })

@@ -14,5 +14,5 @@ returns-clause-fits c =
     let within = h.entries.within in
     let few = h.entries.few in
     let log = own_log _ _ commit _ h (omega (arith, known, within)) in
-    let told = subst (λ (es : List Entry). (entries commit MAX_ENTRIES).fits es) (sym c.in_ok-entries.ensures) log in
-    (c.view.ensures.fits, (c.vector.ensures.fits, (omega (arith, known, within, few), told)))
+    let entries_fit = subst (λ (es : List Entry). (entries commit MAX_ENTRIES).fits es) (sym c.in_ok-entries.ensures) log in
+    (c.view.ensures.fits, (c.vector.ensures.fits, (omega (arith, known, within, few), entries_fit)))

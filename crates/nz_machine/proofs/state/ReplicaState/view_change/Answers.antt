@@ -19,10 +19,10 @@ returns-clause-fits c =
     let last = h.mode.last in
     let low = h.mode.view in
     let log = own_log _ _ (max synced commit) _ h (omega (arith, known, within, is)) in
-    let told = subst (λ (es : List Entry). (entries (max synced commit) MAX_ENTRIES).fits es) (sym c.in_ok-entries.ensures) log in (
+    let entries_fit = subst (λ (es : List Entry). (entries (max synced commit) MAX_ENTRIES).fits es) (sym c.in_ok-entries.ensures) log in (
       c.view.ensures.fits,
       (
         view_fits c.self.inside.parts.last (omega (arith, last, low)),
-        (c.vector.ensures.fits, ((omega (arith, within, few, is), omega (arith, known, within, few)), told)),
+        (c.vector.ensures.fits, ((omega (arith, within, few, is), omega (arith, known, within, few)), entries_fit)),
       ),
     )

@@ -8,8 +8,8 @@ use Rattle.nz_proxy.specs.Standings.{IsFitStanding, HasFitAnswer}
 use Rattle.nz_proxy.proofs.Fitting.{fit_note, decided_fits}
 use Rattle.nz_proxy.proofs.standing.Standing.note.Goals as goal
 
-pub returns-in_ok-told-in-Some-clause-fit : goal.returns-in_ok-told-in-Some-clause-fit
-returns-in_ok-told-in-Some-clause-fit c = λ f fit all.
+pub returns-in_ok-given-in-Some-clause-fit : goal.returns-in_ok-given-in-Some-clause-fit
+returns-in_ok-given-in-Some-clause-fit c = λ f fit all.
     let tally = c.in-Open.tally in
     let open_fit = subst (λ (s : Standing). IsFitStanding f s) c.in-Open.is all in
     let noted =

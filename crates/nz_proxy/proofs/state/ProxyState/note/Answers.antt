@@ -17,7 +17,7 @@ use Rattle.nz_proxy.specs.declared.standing.Standing.{Standing}
 use Rattle.nz_proxy.specs.declared.state.ProxyState.TheInside.{Inside}
 use Rattle.nz_proxy.specs.Standings.{IsFitEntry, known_standings, answers_to_client, standing_with_reply, answer_after_reply}
 use Rattle.nz_proxy.proofs.Tables.{fit_lookup, fit_set, IsFound}
-use Rattle.nz_proxy.proofs.Fitting.{notable, told_fits}
+use Rattle.nz_proxy.proofs.Fitting.{notable, answer_after_reply_fits}
 use Rattle.nz_proxy.proofs.Noting.{on_ok, ok_map, ok_always, notes_none, notes_some}
 use Rattle.nz_proxy.proofs.state.ProxyState.note.Goals as goal
 use Rattle.nz_proxy.proofs.state.ProxyState.note.Goals.{in-None+in-Fast+in-Some+in-Value-1, in-None+in-Fast+in-Some+in-Done-1}
@@ -49,14 +49,14 @@ kept c is = subst (λ (i : Inside). IsKeptProxy i.cluster i.me i.clock i.window 
 abbrev Outcome : Type 0
 Outcome = Result (Option (Answer × Path)) NoMemory
 
--- what the rule gives, as it is told
+-- what the rule gives, with the answer for the client
 abbrev IsRule : (c : goal.Joined-get_mut) → Inside → Option (Answer × Path) → Type 0
-IsRule c i told = after_replica_reply c.args.self.now.f c.args.self.now.state c.args.id c.args.reply (standing_of c.args.self.now.state c.args.id)
-    ≡ (record { is_down = i.is_down; clock = i.clock; samples = i.window; standings = known_standings i.standings.entries }, answers_to_client c.args.id told)
+IsRule c i given = after_replica_reply c.args.self.now.f c.args.self.now.state c.args.id c.args.reply (standing_of c.args.self.now.state c.args.id)
+    ≡ (record { is_down = i.is_down; clock = i.clock; samples = i.window; standings = known_standings i.standings.entries }, answers_to_client c.args.id given)
 
 none_state : (c : goal.Joined-get_mut) → c.match-get_mut.self-inside ≡ c.self.inside
     → c.match-get_mut.result ≡ Ok None → None ≡ lookup (id_eq c.args.id) c.self.inside.standings.entries
-    → IfOk c.match-get_mut.result (λ told. IsRule c c.match-get_mut.self-inside told)
+    → IfOk c.match-get_mut.result (λ given. IsRule c c.match-get_mut.self-inside given)
 none_state c same is none =
     let i = c.self.inside in
     let state : ProxyData = record { is_down = i.is_down; clock = i.clock; samples = i.window; standings = known_standings i.standings.entries } in
@@ -64,14 +64,14 @@ none_state c same is none =
     let now =
     subst (λ (s : ProxyModel). after_replica_reply s.f s.state c.args.id c.args.reply (standing_of s.state c.args.id)
     ≡ (state, [])) c.self.view_is rule in
-    subst (λ (r : Outcome). IfOk r (λ told. IsRule c c.match-get_mut.self-inside told)) (sym is)
+    subst (λ (r : Outcome). IfOk r (λ given. IsRule c c.match-get_mut.self-inside given)) (sym is)
     (subst (λ (j : Inside). IsRule c j None) (sym same) now)
 
-none_client : (c : goal.Joined-get_mut) → c.match-get_mut.result ≡ Ok None → IfOk c.match-get_mut.result (λ told. IsSome told → c.args.id.client ≤ 63)
-none_client c is = subst (λ (r : Outcome). IfOk r (λ told. IsSome told → c.args.id.client ≤ 63)) (sym is) (λ h. absurd cc)
+none_client : (c : goal.Joined-get_mut) → c.match-get_mut.result ≡ Ok None → IfOk c.match-get_mut.result (λ given. IsSome given → c.args.id.client ≤ 63)
+none_client c is = subst (λ (r : Outcome). IfOk r (λ given. IsSome given → c.args.id.client ≤ 63)) (sym is) (λ h. absurd cc)
 
-none_fit : (c : goal.Joined-get_mut) → c.match-get_mut.result ≡ Ok None → IfOk c.match-get_mut.result (λ told. IfSome told (λ t. answer.fits t.0))
-none_fit c is = subst (λ (r : Outcome). IfOk r (λ told. IfSome told (λ t. answer.fits t.0))) (sym is) tt
+none_fit : (c : goal.Joined-get_mut) → c.match-get_mut.result ≡ Ok None → IfOk c.match-get_mut.result (λ given. IfSome given (λ t. answer.fits t.0))
+none_fit c is = subst (λ (r : Outcome). IfOk r (λ given. IfSome given (λ t. answer.fits t.0))) (sym is) tt
 
 -- ---- the clauses
 
@@ -110,7 +110,7 @@ returns-clause-state c =
           let entries = (c.get_mut.follows.holds w.note.new.self).0 in
           let rule =
           on_ok w.note.result (w.note.new.self ≡ standing_with_reply k c.args.reply)
-          (λ t. t ≡ answer_after_reply k c.args.reply) (λ t. IsRule c (record i { standings = m }) t) w.note.ensures.standing w.note.ensures.told
+          (λ t. t ≡ answer_after_reply k c.args.reply) (λ t. IsRule c (record i { standings = m }) t) w.note.ensures.standing w.note.ensures.answer
           (λ new_is t t_is. subst (λ (s : ProxyModel). after_replica_reply s.f s.state c.args.id c.args.reply
           (standing_of s.state c.args.id) ≡ (record state { standings = known_standings m.entries }, answers_to_client c.args.id t)) c.self.view_is
           (notes_some i.cluster state i.standings.entries m.entries c.args.id k w.note.new.self c.args.reply t
@@ -143,10 +143,10 @@ returns-clause-fit c =
           let i = c.self.inside in
           let k = w.in-Some.standing.now in
           let found = found_in i.cluster c.args.id i.standings.entries k c.self.invariant.standings w.in-Some.ensures.value in
-          let fit = told_fits i.cluster k c.args.reply c.requires.answer found.standing in
-          let told_fit =
+          let fit = answer_after_reply_fits i.cluster k c.args.reply c.requires.answer found.standing in
+          let answer_fit =
           ok_map w.note.result (λ t. t ≡ answer_after_reply k c.args.reply)
-          (λ t. IfSome t (λ a. answer.fits a.0)) w.note.ensures.told
+          (λ t. IfSome t (λ a. answer.fits a.0)) w.note.ensures.answer
           (λ t is. subst (λ (o : Option (Answer × Path)). IfSome o (λ a. answer.fits a.0)) (sym is) fit) in
-          subst (λ (r : Outcome). IfOk r (λ t. IfSome t (λ a. answer.fits a.0))) (sym w.result-is) told_fit
+          subst (λ (r : Outcome). IfOk r (λ t. IfSome t (λ a. answer.fits a.0))) (sym w.result-is) answer_fit
     ]

@@ -11,7 +11,7 @@ use Rattle.nz_msg.specs.declared.message.Message.{Message}
 use Rattle.nz_msg.specs.declared.message.Message.TheVariants as messages
 use Rattle.nz_machine.specs.rules.State.{ReplicaData}
 use Rattle.nz_machine.specs.declared.event.Event.{Event}
-use Rattle.nz_machine.specs.declared.data.Reported.{Reported}
+use Rattle.nz_machine.specs.declared.data.CollectedReport.{CollectedReport}
 use Rattle.nz_machine.specs.rules.Replicas.{is_changing}
 use Rattle.nz_machine.specs.rules.Begins.{report_of, without_strays}
 use Rattle.nz_machine.specs.rules.Vectors.{with_vector}
@@ -29,37 +29,37 @@ use Rattle.nz_machine.proofs.lists.Distinct.{distinct_filter, distinct_replace}
 use Rattle.nz_laws_cv.proofs.Lists.{filter_has}
 use Rattle.nz_laws_cv.proofs.Tellers.{HearsSent}
 
-abbrev pub reporter : Reported → ℕ
-reporter r = r.change.sender
+abbrev pub reporter : CollectedReport → ℕ
+reporter r = r.report.sender
 
 -- what the sender reported
-abbrev pub report_message : ℕ → Reported → Message
+abbrev pub report_message : ℕ → CollectedReport → Message
 report_message view r =
     messages.ViewChange (record {
       view =
           view;
-      last = r.change.last;
+      last = r.report.last;
       vector = r.vector;
-      synced = r.change.synced;
-      commit = r.change.commit;
-      entries = r.change.log;
+      synced = r.report.synced;
+      commit = r.report.commit;
+      entries = r.report.log;
     })
 
 module _ (f me : ℕ) (Sent : ℕ → Message → Type 0) where
-  pub record IsReported (view : ℕ) (v : List ℕ) (r : Reported) : Type 0 where
-    pub below : r.change.sender < replica_count f
-    pub other : ¬ (r.change.sender ≡ me)
-    pub sent : Sent r.change.sender (report_message view r)
+  pub record IsReported (view : ℕ) (v : List ℕ) (r : CollectedReport) : Type 0 where
+    pub below : r.report.sender < replica_count f
+    pub other : ¬ (r.report.sender ≡ me)
+    pub sent : Sent r.report.sender (report_message view r)
     pub merged_in : (k : ℕ) → ¬ (k ≡ me) → slice_index r.vector k ≤ slice_index v k
-    pub fresh : slice_index v r.change.sender ≤ slice_index r.vector r.change.sender
+    pub fresh : slice_index v r.report.sender ≤ slice_index r.vector r.report.sender
 
-  pub record AreReports (view : ℕ) (v : List ℕ) (changes : List Reported) : Type 0 where
-    pub distinct : AreDistinct (map reporter changes)
-    pub each : (r : Reported) → Has changes r → IsReported view v r
+  pub record AreReports (view : ℕ) (v : List ℕ) (reports : List CollectedReport) : Type 0 where
+    pub distinct : AreDistinct (map reporter reports)
+    pub each : (r : CollectedReport) → Has reports r → IsReported view v r
 
   -- of a state in a view change
   pub record HasReports (s : ReplicaData) : Type 0 where
-    pub reports : is_changing s.status ≡ true → AreReports s.view s.vector s.changes
+    pub reports : is_changing s.status ≡ true → AreReports s.view s.vector s.reports
 
   pub no_reports : (view : ℕ) (v : List ℕ) → AreReports view v []
   no_reports view v = record { distinct = tt; each = λ r has. absurd has }
@@ -69,15 +69,15 @@ module _ (f me : ℕ) (Sent : ℕ → Message → Type 0) where
 
   module _ (e : Event) (heard : Heard) (fit : HearsFit f me heard) (sent : HearsSent Sent me heard) (in_group : me < replica_count f) where
     -- those that are not stray for the merged vector
-    fresh_reports : (s : ReplicaData) (sender : ℕ) (m : Message) (u : List ℕ) → IsSound f s → IsFresh heard s sender m u → AreReports s.view s.vector s.changes
-        → AreReports s.view (merged_vector s.vector u me) (without_strays (with_vector me s u)).changes
+    fresh_reports : (s : ReplicaData) (sender : ℕ) (m : Message) (u : List ℕ) → IsSound f s → IsFresh heard s sender m u → AreReports s.view s.vector s.reports
+        → AreReports s.view (merged_vector s.vector u me) (without_strays (with_vector me s u)).reports
     fresh_reports s sender m u sound new h =
         let v = merged_vector s.vector u me in
-        let test : Reported → Bool = λ r. not (is_stray r.vector r.change.sender v) in
+        let test : CollectedReport → Bool = λ r. not (is_stray r.vector r.report.sender v) in
         record {
-          distinct = distinct_filter reporter test s.changes h.distinct;
+          distinct = distinct_filter reporter test s.reports h.distinct;
           each = λ r has.
-              let p = filter_has test s.changes r has in
+              let p = filter_has test s.reports r has in
               let k = h.each r p.among in
               record {
                 below = k.below;
@@ -85,16 +85,16 @@ module _ (f me : ℕ) (Sent : ℕ → Message → Type 0) where
                 sent = k.sent;
                 merged_in = λ i other. let low =
                     k.merged_in i other in let up = merges f me e heard fit s sender m u in_group sound new i in omega (arith, low, up);
-                fresh = not_stray r.vector v r.change.sender p.passes;
+                fresh = not_stray r.vector v r.report.sender p.passes;
               };
         }
 
-    base_reports : (s : ReplicaData) (sender : ℕ) (b : ViewChangeBody) (base : List Reported) → IsSound f s → HasReports s
+    base_reports : (s : ReplicaData) (sender : ℕ) (b : ViewChangeBody) (base : List CollectedReport) → IsSound f s → HasReports s
         → IsFresh heard s sender (messages.ViewChange b) b.vector → Base (with_vector me s b.vector) b.view base
         → AreReports b.view (merged_vector s.vector b.vector me) base
     base_reports s sender b _ sound h new (Anew later) = no_reports b.view (merged_vector s.vector b.vector me)
     base_reports s sender b _ sound h new (Going same changing) =
-        subst (λ (w : ℕ). AreReports w (merged_vector s.vector b.vector me) (without_strays (with_vector me s b.vector)).changes) same
+        subst (λ (w : ℕ). AreReports w (merged_vector s.vector b.vector me) (without_strays (with_vector me s b.vector)).reports) same
         (fresh_reports s sender (messages.ViewChange b) b.vector sound new (h.reports changing))
 
     -- the one that is heard: it was not stray, so what is merged has its sender's counter
@@ -114,18 +114,18 @@ module _ (f me : ℕ) (Sent : ℕ → Message → Type 0) where
           omega (arith, is, low);
     }
 
-    one_of : (s : ReplicaData) (view : ℕ) (v : List ℕ) (sender : ℕ) (b : ViewChangeBody) (base : List Reported) → AreReports view v base
-        → IsReported view v (report_of sender b) → (r : Reported) → Has (collecting me s base sender b).changes r → IsReported view v r
-    one_of s view v sender b base h new r has = elim (has_split (filter (λ x. not (eqb x.change.sender sender)) base) (report_of sender b ∷ []) r has) [
-      | inl old ↦ h.each r (filter_has (λ (x : Reported). not (eqb x.change.sender sender)) base r old).among
+    one_of : (s : ReplicaData) (view : ℕ) (v : List ℕ) (sender : ℕ) (b : ViewChangeBody) (base : List CollectedReport) → AreReports view v base
+        → IsReported view v (report_of sender b) → (r : CollectedReport) → Has (collecting me s base sender b).reports r → IsReported view v r
+    one_of s view v sender b base h new r has = elim (has_split (filter (λ x. not (eqb x.report.sender sender)) base) (report_of sender b ∷ []) r has) [
+      | inl old ↦ h.each r (filter_has (λ (x : CollectedReport). not (eqb x.report.sender sender)) base r old).among
       | inr (inl is) ↦ subst (IsReported view v) is new
       | inr (inr none) ↦ absurd none
     ]
 
     -- the reports with the one that is heard
-    pub collected : (s : ReplicaData) (sender : ℕ) (b : ViewChangeBody) (base : List Reported) → IsSound f s → HasReports s
+    pub collected : (s : ReplicaData) (sender : ℕ) (b : ViewChangeBody) (base : List CollectedReport) → IsSound f s → HasReports s
         → IsFresh heard s sender (messages.ViewChange b) b.vector → Base (with_vector me s b.vector) b.view base
-        → AreReports b.view (merged_vector s.vector b.vector me) (collecting me s base sender b).changes
+        → AreReports b.view (merged_vector s.vector b.vector me) (collecting me s base sender b).reports
     collected s sender b base sound h new on =
         let old = base_reports s sender b base sound h new on in
         record {
@@ -156,13 +156,14 @@ module _ (f me : ℕ) (Sent : ℕ → Message → Type 0) where
     reports_kept s _ sound (Back rejoining is) h = record { reports = λ c. up_no_rejoin s.status (changing_up s.status c) rejoining }
 
 -- what was sent stays sent
-pub are_reports_stay : (f me : ℕ) (P Q : ℕ → Message → Type 0) → ((y : ℕ) (m : Message) → P y m → Q y m) → (view : ℕ) (v : List ℕ) (changes : List Reported)
-    → AreReports f me P view v changes → AreReports f me Q view v changes
-are_reports_stay f me P Q more view v changes h = record {
+pub are_reports_stay : (f me : ℕ) (P Q : ℕ → Message → Type 0) → ((y : ℕ) (m : Message) → P y m → Q y m)
+    → (view : ℕ) (v : List ℕ) (reports : List CollectedReport)
+    → AreReports f me P view v reports → AreReports f me Q view v reports
+are_reports_stay f me P Q more view v reports h = record {
   distinct = h.distinct;
   each = λ r has. let k = h.each r has in record { below = k.below; other = k.other; sent = more _ _ k.sent; merged_in = k.merged_in; fresh = k.fresh };
 }
 
 pub reports_stay : (f me : ℕ) (P Q : ℕ → Message → Type 0) → ((y : ℕ) (m : Message) → P y m → Q y m) → (s : ReplicaData)
     → HasReports f me P s → HasReports f me Q s
-reports_stay f me P Q more s h = record { reports = λ c. are_reports_stay f me P Q more s.view s.vector s.changes (h.reports c) }
+reports_stay f me P Q more s h = record { reports = λ c. are_reports_stay f me P Q more s.view s.vector s.reports (h.reports c) }

@@ -2,7 +2,7 @@
 use Rattle.std.proofs.Common.{◌≡◌, ap, sym, ◌∙◌}
 use Rattle.nz_merge.specs.Fit.{are_fit}
 use Rattle.nz_merge.proofs.Fitting.{fit_yes, fit_is}
-use Rattle.nz_merge.proofs.change.ViewChanges.are_fit.Goals as goal
+use Rattle.nz_merge.proofs.report.Reports.are_fit.Goals as goal
 
 pub returns : goal.returns
 returns c =

@@ -13,7 +13,7 @@ use std::marker::Model;
 
 /// What a replica reports to the leader of a new view.
 #[derive(Debug, Drop)]
-pub struct Change {
+pub struct Report {
     /// The replica's number.
     pub sender: u8,
     /// The last view in which it was Normal.
@@ -27,28 +27,28 @@ pub struct Change {
 
 /// Reports of different replicas.
 #[derive(Debug, Drop)]
-pub struct ViewChanges {
-    changes: Vec<Change>,
+pub struct Reports {
+    reports: Vec<Report>,
 }
 
-impl Model for ViewChanges {
+impl Model for Reports {
     ghost use Rattle.std.specs.Prelude.{List};
-    ghost use Rattle.nz_merge.specs.declared.change.Change.{Change as ChangeModel};
+    ghost use Rattle.nz_merge.specs.declared.report.Report.{Report as ReportModel};
     ghost use Rattle.nz_merge.specs.Sender.{HaveOwnSenders};
 
-    ghost Value = { List ChangeModel };
+    ghost Value = { List ReportModel };
 
-    ghost view = { λ s. s.changes.items };
+    ghost view = { λ s. s.reports.items };
 
-    ghost invariant = { λ s. HaveOwnSenders s.changes.items };
+    ghost invariant = { λ s. HaveOwnSenders s.reports.items };
 }
 
-impl ViewChanges {
-    pub fn new(alloc: Global) -> ViewChanges
+impl Reports {
+    pub fn new(alloc: Global) -> Reports
         ensures { result ≡ [] }
     {
-        ViewChanges {
-            changes: Vec::new(alloc),
+        Reports {
+            reports: Vec::new(alloc),
         }
     }
 
@@ -56,16 +56,16 @@ impl ViewChanges {
     pub fn has_sender(&self, sender: u8) -> bool
         ensures { result ≡ has_sender self.now sender }
     {
-        self.changes.iter().any(|change| change.sender == sender)
+        self.reports.iter().any(|report| report.sender == sender)
     }
 
     /// Puts a report last.
-    pub fn push(&mut self, change: Change) -> Result<(), NoMemory>
-        requires { IsFalse (has_sender self.old change.sender) }
-        ensures ok { OnOk result (self.new ≡ self.old ++ change ∷ []) }
+    pub fn push(&mut self, report: Report) -> Result<(), NoMemory>
+        requires { IsFalse (has_sender self.old report.sender) }
+        ensures ok { OnOk result (self.new ≡ self.old ++ report ∷ []) }
         ensures err { OnErr result (self.new ≡ self.old) }
     {
-        self.changes.push(change)?;
+        self.reports.push(report)?;
         Ok(())
     }
 
@@ -73,22 +73,22 @@ impl ViewChanges {
     pub fn are_fit(&self) -> bool
         ensures { IsTrue result ↔ AreFit self.now }
     {
-        all_fit(&self.changes)
+        all_fit(&self.reports)
     }
 
-    pub fn as_slice(&self) -> &[Change]
+    pub fn as_slice(&self) -> &[Report]
         ensures value { result.now ≡ self.now }
         ensures own { HaveOwnSenders result.now }
     {
-        &self.changes
+        &self.reports
     }
 }
 
-fn all_fit(changes: &[Change]) -> bool
-    ensures { result ≡ are_fit changes.now }
+fn all_fit(reports: &[Report]) -> bool
+    ensures { result ≡ are_fit reports.now }
 {
-    for change in changes {
-        if change.synced > change.log.len() || !is_log(change.log.as_slice()) {
+    for report in reports {
+        if report.synced > report.log.len() || !is_log(report.log.as_slice()) {
             return false;
         }
     }
